@@ -1,5 +1,5 @@
 """Templates that are refused, by the fault that decides and its place; and what is just taken."""
-from rows import of_fault, of_weight
+from short import of_fault, of_weight
 
 MARKUP = [
     ('x <<beginOptional>> y', 'M3 at 2: optional not ended'),

@@ -1,5 +1,5 @@
 """Kinds of characters and their letters, each seen between two words; and the families of marks."""
-from rows import of_tokens
+from short import of_tokens
 
 # marks, and their letters
 MARKS = [

@@ -1,5 +1,5 @@
 """Tokens of lines and of texts, by the profile; of bytes that are no UTF-8; and by other rules."""
-from rows import of_tokens
+from short import of_tokens
 from harness import Case
 
 LINES = [

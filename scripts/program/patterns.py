@@ -1,5 +1,5 @@
 """What patterns weigh, and which texts they describe: each is the pattern of a variable, whose original is one text after another."""
-from rows import CHECK
+from short import CHECK
 from harness import Case, templates
 
 # a pattern, its weight, texts that it describes, and others that it does not

@@ -4,7 +4,7 @@ A piece is read as its lines are, and by what is before and after it in its line
 """
 import dataclasses
 
-from rows import of_matches, of_weight
+from short import of_matches, of_weight
 
 A = '<<var;name=n;original=a;match=a>>'
 X = '<<beginOptional>>x<<endOptional>>'

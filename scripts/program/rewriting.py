@@ -1,5 +1,5 @@
 """Tokens as they are rewritten: signs, addresses, and equivalent words."""
-from rows import of_tokens
+from short import of_tokens
 
 # each line a class, whose first phrase is its text
 LISTED = 'sub-license,sublicense,sub license\nalphabet,a b c,a,a b c d e f g h\ncopyright x\n'

@@ -1,7 +1,7 @@
 """Files of line rules that are read: those that are shipped, sign by sign, and small ones."""
 import os
 
-from rows import joined, of_tokens
+from short import joined, of_tokens
 
 RULES = os.path.join(os.path.dirname(os.path.abspath(__file__)), '..', '..', 'examples', 'rules')
 

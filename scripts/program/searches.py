@@ -1,5 +1,5 @@
 """All matches of some templates in a text, and those after a triple."""
-from rows import of_matches
+from short import of_matches
 
 OF = '<<var;name="a";original="p";match=".+">> of <<var;name="b";original="q";match=".+">>'
 

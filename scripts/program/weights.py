@@ -1,5 +1,5 @@
 """What templates weigh, and whether they describe their original texts, with all optional parts and each variable's original in them."""
-from rows import of_weight
+from short import of_weight
 
 HEAVY = '<<var;name="v";original="";match=".{65535}">>'
 

@@ -8,7 +8,7 @@ pub mod TokenLetters
 pub mod Sought
 pub mod Gathered
 pub mod WordSets
-pub mod Rows
+pub mod Sequences
 pub mod Weightless
 pub mod Repetitions
 pub mod Texts

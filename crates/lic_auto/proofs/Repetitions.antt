@@ -122,7 +122,7 @@ Repeats-left_out P h max some = record {
   from = λ w (k, l, m, p). powers_from P 0 max some h k w p;
 }
 
--- rows of copied bodies
+-- sequences of copied bodies
 pub copies-list : (n : ℕ) (a : Core) → cat_all (replicate n a) ≡ copies n a
 copies-list zero a = refl
 copies-list (suc n) a = ap (cat a) (copies-list n a)
@@ -131,15 +131,15 @@ pub up_to-list : (n : ℕ) (a : Core) → any_prefix (replicate n a) ≡ up_to n
 up_to-list zero a = refl
 up_to-list (suc n) a = ap (λ r. alt empty (cat a r)) (up_to-list n a)
 
-pub bounded_row : (a c d : Core) (min max : ℕ) → min ≤ max → c ≡ copies min a → d ≡ up_to (max - min) a →
+pub bounded_sequence : (a c d : Core) (min max : ℕ) → min ≤ max → c ≡ copies min a → d ≡ up_to (max - min) a →
     AreSame (WordsOf (cat_all (c ∷ d ∷ []))) (Repeats (WordsOf a) min (Some max))
-bounded_row a c d min max l e f =
+bounded_sequence a c d min max l e f =
     rw (e, f) (AreSame-trans (Cat-same (AreSame-refl (WordsOf (copies min a))) (Cat-empty_right (WordsOf (up_to (max - min) a)))) (bounded_words a min max l))
 
-pub unbounded_row : (a c d : Core) (min : ℕ) → 1 ≤ min → c ≡ copies (min - 1) a → d ≡ plus a →
+pub unbounded_sequence : (a c d : Core) (min : ℕ) → 1 ≤ min → c ≡ copies (min - 1) a → d ≡ plus a →
     AreSame (WordsOf (cat_all (c ∷ d ∷ []))) (Repeats (WordsOf a) min None)
-unbounded_row a c d min l e f =
+unbounded_sequence a c d min l e f =
     rw (e, f) (AreSame-trans (Cat-same (AreSame-refl (WordsOf (copies (min - 1) a))) (Cat-empty_right (WordsOf (plus a)))) (unbounded_words a min l))
 
-pub star_row : (a d : Core) → d ≡ plus a → AreSame (WordsOf (alt empty d)) (Repeats (WordsOf a) 0 None)
-star_row a d e = rw e (star_words a)
+pub star_sequence : (a d : Core) → d ≡ plus a → AreSame (WordsOf (alt empty d)) (Repeats (WordsOf a) 0 None)
+star_sequence a d e = rw e (star_words a)

@@ -1,4 +1,4 @@
--- The children that a row or a choice has taken so far.
+-- The children that a sequence or a choice has taken so far.
 use Rattle.std.proofs.Common.{◌≡◌, ◌<◌, Bool, true, false, ◌||◌, List, [], ◌∷◌, ◌++◌, map, take, length, get_or, Option, Some, None, arith, refl, sym, ap, ◌∙◌, subst, inl, ⊎_elim}
 use Rattle.std.specs.List.{list_all}
 use Rattle.std.specs.Option.{IfSome, ok_or}
@@ -16,7 +16,7 @@ use Rattle.lic_marks.specs.declared.node.Node.{Node}
 use Rattle.lic_marks.proofs.Cuts.{and_both}
 use Rattle.lic_auto.specs.Compiling.{AreSame, HasWords}
 use Rattle.lic_auto.proofs.WordSets.{AreSame-refl, AreSame-sym, AreSame-trans, Either, EmptyIf, IsEmpty, Either-same, Either-reversed_tokens, Either-none, Either-none_left, Either-assoc, EmptyIf-or}
-use Rattle.lic_auto.proofs.Rows.{cat_all-keep, alt_all-push}
+use Rattle.lic_auto.proofs.Sequences.{cat_all-keep, alt_all-push}
 use Rattle.lic_auto.proofs.Weightless.{cat_all-leave_out, cat_all-none, weightless, weightless_none, weightless_words}
 use Rattle.lic_auto.proofs.Trees.{more}
 
@@ -35,21 +35,21 @@ module _ (all ys : List Node) (n : Node) (turn : (length ys < length all) × (n 
   taken = ap (λ k. map core_of (take k all)) (length_push ys n) ∙ more core_of all (length ys) n turn.0 turn.1
 
   module _ (ns : List Node) where
-    pub row_keeps : (new : List Node) → new ≡ ns ++ n ∷ [] →
+    pub sequence_keeps : (new : List Node) → new ≡ ns ++ n ∷ [] →
         AreSame (WordsOf (cat_all (map core_of ns))) (WordsOf (cat_all (map core_of (take (length ys) all)))) →
         AreSame (WordsOf (cat_all (map core_of new))) (WordsOf (cat_all (map core_of (take (length (ys ++ n ∷ [])) all))))
-    row_keeps new e same =
+    sequence_keeps new e same =
         rw (cores-push ns new n e, taken) (cat_all-keep (map core_of ns) (map core_of (take (length ys) all)) (core_of n) same)
 
-    pub row_leaves_out : weight (core_of n) ≡ 0 → is_nullable (core_of n) ≡ true →
+    pub sequence_leaves_out : weight (core_of n) ≡ 0 → is_nullable (core_of n) ≡ true →
         AreSame (WordsOf (cat_all (map core_of ns))) (WordsOf (cat_all (map core_of (take (length ys) all)))) →
         AreSame (WordsOf (cat_all (map core_of ns))) (WordsOf (cat_all (map core_of (take (length (ys ++ n ∷ [])) all))))
-    row_leaves_out light empty_too same =
+    sequence_leaves_out light empty_too same =
         rw taken (cat_all-leave_out (map core_of ns) (map core_of (take (length ys) all)) (core_of n) light empty_too same)
 
-  pub row_ends : (node : Node) → weight (core_of n) ≡ 0 → is_nullable (core_of n) ≡ false → HasWords (Language words.none) node →
+  pub sequence_ends : (node : Node) → weight (core_of n) ≡ 0 → is_nullable (core_of n) ≡ false → HasWords (Language words.none) node →
       HasWords (WordsOf (cat_all (map core_of all))) node
-  row_ends node light never has = record {
+  sequence_ends node light never has = record {
     words = AreSame-trans has.words (AreSame-sym (cat_all-none all (length ys) n turn.0 turn.1 (weightless_none (core_of n) light never)));
     measured = has.measured;
   }

@@ -8,9 +8,9 @@ use Rattle.lic_marks.specs.declared.test.Test.TheVariants.{Letter}
 use Rattle.lic_marks.specs.declared.node.Node.{Node}
 use Rattle.lic_auto.specs.Compiling.{AreSame}
 use Rattle.lic_auto.proofs.WordSets.{AreSame-refl, AreSame-sym, AreSame-trans, Cat-same, Cat-assoc, Cat-empty_right}
-use Rattle.lic_auto.proofs.Rows.{cat_all-push}
+use Rattle.lic_auto.proofs.Sequences.{cat_all-push}
 
--- rows that differ in the last child alone, by a child with the same words
+-- sequences that differ in the last child alone, by a child with the same words
 same_end : (rs : List Core) (a b : Core) → AreSame (WordsOf a) (WordsOf b) → AreSame (WordsOf (cat_all (rs ++ a ∷ []))) (WordsOf (cat_all (rs ++ b ∷ [])))
 same_end rs a b same =
     AreSame-trans (cat_all-push rs a)

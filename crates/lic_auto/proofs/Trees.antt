@@ -12,7 +12,7 @@ use Rattle.lic_ere.specs.Trees.{Tree, tree_of, node_tree}
 use Rattle.lic_ere.specs.Trees as trees
 use Rattle.lic_markup.specs.declared.part.Part.{Part}
 use Rattle.lic_markup.specs.Parts.{part_of}
-use Rattle.lic_markup.specs.Meaning.{tree_words, row_words, choice_words, part_words, parts_words}
+use Rattle.lic_markup.specs.Meaning.{tree_words, sequence_words, choice_words, part_words, parts_words}
 use Rattle.lic_marks.specs.Cores.{WordsOf, one, cat_all}
 use Rattle.lic_marks.specs.Nodes.{core_of, is_measured, letter_cores, IsBuilt}
 use Rattle.lic_marks.specs.declared.node.Node.{Node}
@@ -24,7 +24,7 @@ use Rattle.lic_auto.specs.declared.direction.Direction.TheVariants.{Forward, Bac
 use Rattle.lic_auto.specs.Directions.{ordered, read}
 use Rattle.lic_words.specs.Reversal.{reversed_expression}
 use Rattle.lic_auto.proofs.Ordered.{reverse-cons}
-use Rattle.lic_auto.proofs.Rows.{cat_all-push}
+use Rattle.lic_auto.proofs.Sequences.{cat_all-push}
 use Rattle.lic_auto.proofs.Repetitions.{Repeats-same}
 
 pub AllHaveWords-push : (ns : List Node) (es : List Expression) (n : Node) (e : Expression) →
@@ -39,20 +39,20 @@ AllHaveWords-measured [] es all = refl
 AllHaveWords-measured (n ∷ ns) [] all = absurd all
 AllHaveWords-measured (n ∷ ns) (e ∷ es) all = and_both (is_measured n) (list_all is_measured ns) all.0.measured (AllHaveWords-measured ns es all.1)
 
-pub tree_of-Cat : (subs : Vec Ere Global) → tree_of (Cat subs) ≡ trees.cat (trees.row (map tree_of subs.items))
+pub tree_of-Cat : (subs : Vec Ere Global) → tree_of (Cat subs) ≡ trees.cat (trees.sequence (map tree_of subs.items))
 tree_of-Cat subs = ap tree_of (sym (rolls-Cat subs)) ∙ fold-roll-Ere Tree node_tree (Ere-F.Cat subs)
 
-pub tree_of-Alt : (subs : Vec Ere Global) → tree_of (Alt subs) ≡ trees.alt (trees.row (map tree_of subs.items))
+pub tree_of-Alt : (subs : Vec Ere Global) → tree_of (Alt subs) ≡ trees.alt (trees.sequence (map tree_of subs.items))
 tree_of-Alt subs = ap tree_of (sym (rolls-Alt subs)) ∙ fold-roll-Ere Tree node_tree (Ere-F.Alt subs)
 
 pub tree_of-Repeat : (body : Box Ere Global) (min : ℕ) (max : Option ℕ) → tree_of (Repeat body min max) ≡ trees.repeat (tree_of body.value) min max
 tree_of-Repeat body min max = ap tree_of (sym (rolls-Repeat body min max)) ∙ fold-roll-Ere Tree node_tree (Ere-F.Repeat body min max)
 
-pub row_words-list : (subs : List Ere) → words.cat_all (map pattern_words subs) ≡ row_words (trees.row (map tree_of subs))
-row_words-list [] = refl
-row_words-list (s ∷ subs) = ap (words.cat (pattern_words s)) (row_words-list subs)
+pub sequence_words-list : (subs : List Ere) → words.cat_all (map pattern_words subs) ≡ sequence_words (trees.sequence (map tree_of subs))
+sequence_words-list [] = refl
+sequence_words-list (s ∷ subs) = ap (words.cat (pattern_words s)) (sequence_words-list subs)
 
-pub choice_words-list : (subs : List Ere) → words.alt_all (map pattern_words subs) ≡ choice_words (trees.row (map tree_of subs))
+pub choice_words-list : (subs : List Ere) → words.alt_all (map pattern_words subs) ≡ choice_words (trees.sequence (map tree_of subs))
 choice_words-list [] = refl
 choice_words-list (s ∷ subs) = ap (words.alt (pattern_words s)) (choice_words-list subs)
 
@@ -85,27 +85,27 @@ read-repeat : (d : Direction) (min : ℕ) (max : Option ℕ) (a : Expression) �
 read-repeat Forward min max a = refl
 read-repeat Backward min max a = refl
 
--- a row of nodes whose words are read in a direction, in the order of that direction
-pub row_read : (d : Direction) (ns : List Node) (es : List Expression) → AllHaveWords ns (map (read d) es) →
+-- a sequence of nodes whose words are read in a direction, in the order of that direction
+pub sequence_read : (d : Direction) (ns : List Node) (es : List Expression) → AllHaveWords ns (map (read d) es) →
     AreSame (WordsOf (cat_all (ordered d (map core_of ns)))) (Language (read d (words.cat_all es)))
-row_read Forward [] [] all = AreSame-refl (Language words.empty)
-row_read Forward [] (e ∷ es) all = absurd all
-row_read Forward (n ∷ ns) [] all = absurd all
-row_read Forward (n ∷ ns) (e ∷ es) all = Cat-same all.0.words (row_read Forward ns es all.1)
-row_read Backward [] [] all = AreSame-refl (Language words.empty)
-row_read Backward [] (e ∷ es) all = absurd all
-row_read Backward (n ∷ ns) [] all = absurd all
-row_read Backward (n ∷ ns) (e ∷ es) all =
+sequence_read Forward [] [] all = AreSame-refl (Language words.empty)
+sequence_read Forward [] (e ∷ es) all = absurd all
+sequence_read Forward (n ∷ ns) [] all = absurd all
+sequence_read Forward (n ∷ ns) (e ∷ es) all = Cat-same all.0.words (sequence_read Forward ns es all.1)
+sequence_read Backward [] [] all = AreSame-refl (Language words.empty)
+sequence_read Backward [] (e ∷ es) all = absurd all
+sequence_read Backward (n ∷ ns) [] all = absurd all
+sequence_read Backward (n ∷ ns) (e ∷ es) all =
     subst (λ rs. AreSame (WordsOf (cat_all rs)) (Language (words.cat (reversed_expression (words.cat_all es)) (reversed_expression e))))
     (sym (reverse-cons (core_of n) (map core_of ns)))
-    (AreSame-trans (cat_all-push (reverse (map core_of ns)) (core_of n)) (Cat-same (row_read Backward ns es all.1) all.0.words))
+    (AreSame-trans (cat_all-push (reverse (map core_of ns)) (core_of n)) (Cat-same (sequence_read Backward ns es all.1) all.0.words))
 
--- a compiled row, a choice and a compiled repetition of a pattern
+-- a compiled sequence, a choice and a compiled repetition of a pattern
 module _ (d : Direction) (ere : Ere) (subs : Vec Ere Global) (ns : List Node) (all : AllHaveWords ns (map (read d) (map pattern_words subs.items))) where
-  pub compiled_row : ere ≡ Cat subs → AreSame (WordsOf (cat_all (ordered d (map core_of ns)))) (Language (read d (pattern_words ere)))
-  compiled_row e =
-      AreSame-trans (row_read d ns (map pattern_words subs.items) all)
-      (language_same (ap (read d) (row_words-list subs.items ∙ sym (ap tree_words (ap tree_of e ∙ tree_of-Cat subs)))))
+  pub compiled_sequence : ere ≡ Cat subs → AreSame (WordsOf (cat_all (ordered d (map core_of ns)))) (Language (read d (pattern_words ere)))
+  compiled_sequence e =
+      AreSame-trans (sequence_read d ns (map pattern_words subs.items) all)
+      (language_same (ap (read d) (sequence_words-list subs.items ∙ sym (ap tree_words (ap tree_of e ∙ tree_of-Cat subs)))))
 
 pub compiled_choice : (d : Direction) (ere : Ere) (subs : Vec Ere Global) → ere ≡ Alt subs →
     AreSame (Language (words.alt_all (map (read d) (map pattern_words subs.items)))) (Language (read d (pattern_words ere)))
@@ -121,7 +121,7 @@ compiled_repetition d ere body min max node e has =
 
 pub compiled_parts : (d : Direction) (all : List Part) (ns : List Node) → AllHaveWords ns (map (read d) (map part_words all)) →
     AreSame (WordsOf (cat_all (ordered d (map core_of ns)))) (Language (read d (parts_words (map part_of all))))
-compiled_parts d all ns has = AreSame-trans (row_read d ns (map part_words all) has) (language_same (ap (read d) (parts_words-list all)))
+compiled_parts d all ns has = AreSame-trans (sequence_read d ns (map part_words all) has) (language_same (ap (read d) (parts_words-list all)))
 
 -- compiled nodes with the words of another set that is the same
 pub changed : {E : Type 0} {P Q : Word → Type 0} (r : Result Node E) → AreSame P Q → IfOk r (HasWords P) → IfOk r (HasWords Q)

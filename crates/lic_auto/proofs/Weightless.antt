@@ -13,7 +13,7 @@ use Rattle.lic_marks.proofs.Cuts.{or_cases}
 use Rattle.lic_auto.specs.Compiling.{AreSame, Repeats}
 use Rattle.lic_auto.proofs.Repetitions.{Repeats-left_out, Repeats-empty, Repeats-none}
 use Rattle.lic_auto.proofs.WordSets.{AreSame-refl, AreSame-sym, AreSame-trans, IsEmpty, IsNone, EmptyIf, Cat-same, Cat-empty_right}
-use Rattle.lic_auto.proofs.Rows.{cat_all-push}
+use Rattle.lic_auto.proofs.Sequences.{cat_all-push}
 
 bool_cases : (b : Bool) → (b ≡ true) ⊎ (b ≡ false)
 bool_cases true = inl refl
@@ -66,7 +66,7 @@ module _ (r : Core) (light : weight r ≡ 0) where
   }
 
 module _ (rs ss : List Core) (r : Core) (light : weight r ≡ 0) where
-  -- a child that has the empty word alone changes no row
+  -- a child that has the empty word alone changes no sequence
   pub cat_all-leave_out : is_nullable r ≡ true → AreSame (WordsOf (cat_all rs)) (WordsOf (cat_all ss)) →
       AreSame (WordsOf (cat_all rs)) (WordsOf (cat_all (ss ++ r ∷ [])))
   cat_all-leave_out h same =
@@ -81,7 +81,7 @@ weightless_words r light = elim (bool_cases (is_nullable r)) [
   | inr h ↦ rw h (weightless_none r light h)
 ]
 
--- a row with a child that has no word has none
+-- a sequence with a child that has no word has none
 pub cat_all-none : (ns : List Node) (i : ℕ) (n : Node) → i < length ns → n ≡ get_or ns i n → AreSame (WordsOf (core_of n)) IsNone →
     AreSame (WordsOf (cat_all (map core_of ns))) IsNone
 cat_all-none [] i n inside is empty_set = absurd (omega arith)

@@ -14,7 +14,7 @@ ghost use Rattle.lic_auto.specs.Compiling.{AreSame, HasWords, AllHaveWords, Repe
 
 use crate::direction::Direction;
 use lic_ere::Ere;
-use lic_marks::{Node, Test, Times, build};
+use lic_marks::{Node, Test, Times};
 use lic_markup::Part;
 use std::alloc::{AllocError, Global};
 
@@ -35,7 +35,7 @@ pub(crate) fn compile(
     for part in parts {
         children.push(compile_part(alloc, part, direction)?)?;
     }
-    ordered_row(alloc, children, direction)
+    ordered_sequence(alloc, children, direction)
 }
 
 #[cycle(compile)]
@@ -46,7 +46,7 @@ fn compile_part(alloc: Global, part: &Part, direction: Direction) -> Result<Node
         Part::Text(text) => compile_text(alloc, text, direction),
         Part::Var { ere, .. } => {
             let pattern = Box::new(alloc, compile_tree(alloc, ere, direction)?)?;
-            Ok(build::tidy(pattern))
+            Ok(lic_marks::tidy(pattern))
         }
         Part::Optional(parts) => optional(alloc, compile(alloc, parts, direction)?),
     }
@@ -57,7 +57,7 @@ fn compile_text(alloc: Global, text: &str, direction: Direction) -> Result<Node,
 {
     let mut text: Vec<char> = text.chars().collect(alloc)?;
     direction.order(&mut text);
-    Ok(build::letters(text))
+    Ok(lic_marks::letters(text))
 }
 
 /// The words of a pattern, as a compiled tree.
@@ -76,10 +76,14 @@ fn compile_tree(alloc: Global, ere: &Ere, direction: Direction) -> Result<Node, 
 {
     match ere {
         Ere::Empty => Ok(empty_word(alloc)),
-        Ere::Char(letter) => Ok(build::one(Test::Letter(*letter))),
-        Ere::Any => Ok(build::one(Test::Any)),
-        Ere::Set(class) => Ok(build::one(Test::Class(class.copy(alloc)?))),
-        Ere::Cat(subs) => ordered_row(alloc, compile_trees(alloc, subs, direction)?, direction),
+        Ere::Char(letter) => Ok(lic_marks::one(Test::Letter(*letter))),
+        Ere::Any => Ok(lic_marks::one(Test::Any)),
+        Ere::Set(class) => Ok(lic_marks::one(Test::Class(class.copy(alloc)?))),
+        Ere::Cat(subs) => ordered_sequence(
+            alloc,
+            compile_trees(alloc, subs, direction)?,
+            direction,
+        ),
         Ere::Alt(subs) => compile_choice(alloc, subs, direction),
         Ere::Repeat { body, min, max } => match *max {
             Some(max) if max < *min => Ok(no_word(alloc)),
@@ -123,21 +127,21 @@ fn compile_choice(alloc: Global, subs: &[Ere], direction: Direction) -> Result<N
     if has_empty {
         kept.push(empty_word(alloc))?;
     }
-    build::alt(kept).ok_or(AllocError)
+    lic_marks::alt(kept).ok_or(AllocError)
 }
 
 /// The empty word alone.
 fn empty_word(alloc: Global) -> Node
     ensures { HasWords (Language empty) result }
 {
-    build::letters(Vec::new(alloc))
+    lic_marks::letters(Vec::new(alloc))
 }
 
 /// No word.
 fn no_word(alloc: Global) -> Node
     ensures { HasWords (Language none) result }
 {
-    let Some(node) = build::alt(Vec::new(alloc)) else {
+    let Some(node) = lic_marks::alt(Vec::new(alloc)) else {
         unreachable!()
     };
     node
@@ -146,11 +150,11 @@ fn no_word(alloc: Global) -> Node
 fn has_empty_word(node: Node) -> bool
     ensures { result ≡ is_nullable (core_of node) }
 {
-    build::is_nullable(&node)
+    lic_marks::is_nullable(&node)
 }
 
 /// One child after another as they are read in a direction.
-fn ordered_row(
+fn ordered_sequence(
     alloc: Global,
     mut children: Vec<Node>,
     direction: Direction,
@@ -160,11 +164,11 @@ fn ordered_row(
         (WordsOf (cat_all (ordered direction (map core_of children.items))))) }
 {
     direction.order(&mut children);
-    row(alloc, children)
+    sequence(alloc, children)
 }
 
 /// One child after another. The children that weigh 0 are left out, and letters in a row are one text.
-fn row(alloc: Global, children: Vec<Node>) -> Result<Node, AllocError>
+fn sequence(alloc: Global, children: Vec<Node>) -> Result<Node, AllocError>
     requires { IsTrue (list_all is_measured children.items) }
     ensures { IfOk result (HasWords (WordsOf (cat_all (map core_of children.items)))) }
 {
@@ -198,7 +202,7 @@ fn push_joined(alloc: Global, kept: &mut Vec<Node>, child: Node) -> Result<(), A
     };
     let mut text = end_text(alloc, kept, last)?;
     text.push(letter)?;
-    kept.push(build::letters(text))?;
+    kept.push(lic_marks::letters(text))?;
     Ok(())
 }
 
@@ -248,7 +252,7 @@ fn letter_text(alloc: Global, kept: &mut Vec<Node>, test: Test) -> Result<Vec<ch
             Ok(text)
         }
         test => {
-            kept.push(build::one(test))?;
+            kept.push(lic_marks::one(test))?;
             Ok(text)
         }
     }
@@ -261,7 +265,7 @@ fn joined(mut children: Vec<Node>) -> Result<Node, AllocError>
 {
     match children.len() {
         1 => Ok(children.remove(0)),
-        _ => build::cat(children).ok_or(AllocError),
+        _ => lic_marks::cat(children).ok_or(AllocError),
     }
 }
 
@@ -276,7 +280,7 @@ fn optional(alloc: Global, body: Node) -> Result<Node, AllocError>
     let mut children = Vec::new(alloc);
     children.push(body)?;
     children.push(empty_word(alloc))?;
-    build::alt(children).ok_or(AllocError)
+    lic_marks::alt(children).ok_or(AllocError)
 }
 
 /// From `min` to `max` words of the body in a row; without `max`, `min` or more.
@@ -317,16 +321,16 @@ fn bounded(alloc: Global, body: Node, min: usize, max: usize) -> Result<Node, Al
     match body {
         Node::One(test) => {
             let mut children = Vec::new(alloc);
-            children.push(build::copies(test.copy(alloc)?, min))?;
-            children.push(build::up_to(test, max - min))?;
-            row(alloc, children)
+            children.push(lic_marks::copies(test.copy(alloc)?, min))?;
+            children.push(lic_marks::up_to(test, max - min))?;
+            sequence(alloc, children)
         }
         body => {
             let times = Times::Bounded {
                 needed: min,
                 more: max - min,
             };
-            build::repeat(Box::new(alloc, body)?, times).ok_or(AllocError)
+            lic_marks::repeat(Box::new(alloc, body)?, times).ok_or(AllocError)
         }
     }
 }
@@ -337,22 +341,22 @@ fn unbounded(alloc: Global, body: Node, min: usize) -> Result<Node, AllocError>
     ensures { IfOk result (HasWords (Repeats (WordsOf (core_of body)) min None)) }
 {
     if min == 0 {
-        return optional(alloc, build::plus(Box::new(alloc, body)?));
+        return optional(alloc, lic_marks::plus(Box::new(alloc, body)?));
     }
     if min == 1 {
-        return Ok(build::plus(Box::new(alloc, body)?));
+        return Ok(lic_marks::plus(Box::new(alloc, body)?));
     }
     let before = min - 1;
     match body {
         Node::One(test) => {
             let mut children = Vec::new(alloc);
-            children.push(build::copies(test.copy(alloc)?, before))?;
-            children.push(build::plus(Box::new(alloc, build::one(test))?))?;
-            row(alloc, children)
+            children.push(lic_marks::copies(test.copy(alloc)?, before))?;
+            children.push(lic_marks::plus(Box::new(alloc, lic_marks::one(test))?))?;
+            sequence(alloc, children)
         }
         body => {
             let times = Times::Unbounded { before };
-            build::repeat(Box::new(alloc, body)?, times).ok_or(AllocError)
+            lic_marks::repeat(Box::new(alloc, body)?, times).ok_or(AllocError)
         }
     }
 }

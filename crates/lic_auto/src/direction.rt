@@ -14,13 +14,13 @@ pub enum Direction {
 impl Direction {
     ghost use Rattle.lic_auto.specs.Directions.{ordered};
 
-    /// Puts a row that is read from its first item on into the order in which this direction reads it.
-    pub fn order<T>(self, row: &mut [T])
-        ensures { row.new ≡ ordered self row.old }
+    /// Puts a sequence that is read from its first item on into the order in which this direction reads it.
+    pub fn order<T>(self, sequence: &mut [T])
+        ensures { sequence.new ≡ ordered self sequence.old }
     {
         match self {
             Direction::Forward => {}
-            Direction::Backward => row.reverse(),
+            Direction::Backward => sequence.reverse(),
         }
     }
 }

@@ -7,7 +7,7 @@ use Rattle.lic_set.specs.Matches.{Precedes, AreAscending}
 use Rattle.lic_set.specs.declared.triple.Triple.{Triple}
 use Rattle.lic_bundles.specs.declared.bundle.Bundle.{Bundle}
 use Rattle.lic_bundles.specs.Bundles.{triple_at, precedes}
-use Rattle.lic_bundles.specs.Listing.{put, put_run, all_triples}
+use Rattle.lic_bundles.specs.Listing.{put, put_bundle, all_triples}
 use Rattle.lic_bundles.specs.Merging.{count_of}
 use Rattle.lic_bundles.proofs.Counting.{counted-head, counted-tail, counted_cases}
 use Rattle.lic_bundles.proofs.TripleOrder.{same_parts, not_before, Precedes-trans, same_from_members, Decides-precedes, Contains-head, Contains-tail, Contains-cons_cases, Contains-nil}
@@ -81,48 +81,48 @@ AreAscending-put t (s ∷ ss) rise =
     ]
 
 -- that many triples of a bundle, from its first on
-record IsOfRun (n : ℕ) (b : Bundle) (t : Triple) : Type 0 where
+record IsOfBundle (n : ℕ) (b : Bundle) (t : Triple) : Type 0 where
   from : b.from ≤ t.first
   to : t.first < b.from + n
   last : t.last ≡ b.last
   template : t.template ≡ b.template
 
-Contains-put_run : (n : ℕ) (b : Bundle) (ss : List Triple) (t : Triple) → IsOfRun n b t → Contains (put_run n b ss) t
-Contains-put_run zero b ss t h = absurd (omega (arith, h.from, h.to))
-Contains-put_run (suc n) b ss t h =
+Contains-put_bundle : (n : ℕ) (b : Bundle) (ss : List Triple) (t : Triple) → IsOfBundle n b t → Contains (put_bundle n b ss) t
+Contains-put_bundle zero b ss t h = absurd (omega (arith, h.from, h.to))
+Contains-put_bundle (suc n) b ss t h =
     let own : Triple = triple_at (b.from + n) b.last b.template in
     elim (cases_lt t.first (b.from + n)) [
-      | inl less ↦ Contains-put_others own (put_run n b ss) t (Contains-put_run n b ss t (record { from = h.from; to = less; last = h.last; template = h.template }))
+      | inl less ↦ Contains-put_others own (put_bundle n b ss) t (Contains-put_bundle n b ss t (record { from = h.from; to = less; last = h.last; template = h.template }))
       | inr high ↦
           let at : t.first ≡ b.from + n = omega (arith, h.to) in
-          subst (λ u. Contains (put own (put_run n b ss)) u) (same_parts t own at h.last h.template) (Contains-put own (put_run n b ss))
+          subst (λ u. Contains (put own (put_bundle n b ss)) u) (same_parts t own at h.last h.template) (Contains-put own (put_bundle n b ss))
     ]
 
-Contains-put_run_others : (n : ℕ) (b : Bundle) (ss : List Triple) (t : Triple) → Contains ss t → Contains (put_run n b ss) t
-Contains-put_run_others zero b ss t h = h
-Contains-put_run_others (suc n) b ss t h = Contains-put_others _ (put_run n b ss) t (Contains-put_run_others n b ss t h)
+Contains-put_bundle_others : (n : ℕ) (b : Bundle) (ss : List Triple) (t : Triple) → Contains ss t → Contains (put_bundle n b ss) t
+Contains-put_bundle_others zero b ss t h = h
+Contains-put_bundle_others (suc n) b ss t h = Contains-put_others _ (put_bundle n b ss) t (Contains-put_bundle_others n b ss t h)
 
-Contains-put_run_cases : (n : ℕ) (b : Bundle) (ss : List Triple) (t : Triple) → Contains (put_run n b ss) t → IsOfRun n b t ⊎ Contains ss t
-Contains-put_run_cases zero b ss t h = inr h
-Contains-put_run_cases (suc n) b ss t h =
+Contains-put_bundle_cases : (n : ℕ) (b : Bundle) (ss : List Triple) (t : Triple) → Contains (put_bundle n b ss) t → IsOfBundle n b t ⊎ Contains ss t
+Contains-put_bundle_cases zero b ss t h = inr h
+Contains-put_bundle_cases (suc n) b ss t h =
     let own : Triple = triple_at (b.from + n) b.last b.template in
-    elim (Contains-put_cases own (put_run n b ss) t h) [
+    elim (Contains-put_cases own (put_bundle n b ss) t h) [
       | inl same ↦
           let first : b.from + n ≡ t.first = ap (λ u. u.first) same in
           inl (record { from = omega arith; to = omega arith; last = sym (ap (λ u. u.last) same); template = sym (ap (λ u. u.template) same) })
       | inr more ↦
-          ⊎_elim (λ (run : IsOfRun n b t). inl (record { from = run.from; to = omega (arith, run.to); last = run.last; template = run.template })) (λ k. inr k)
-          (Contains-put_run_cases n b ss t more)
+          ⊎_elim (λ (part : IsOfBundle n b t). inl (record { from = part.from; to = omega (arith, part.to); last = part.last; template = part.template })) (λ k. inr k)
+          (Contains-put_bundle_cases n b ss t more)
     ]
 
-AreAscending-put_run : (n : ℕ) (b : Bundle) (ss : List Triple) → AreAscending ss → AreAscending (put_run n b ss)
-AreAscending-put_run zero b ss rise = rise
-AreAscending-put_run (suc n) b ss rise = AreAscending-put _ (put_run n b ss) (AreAscending-put_run n b ss rise)
+AreAscending-put_bundle : (n : ℕ) (b : Bundle) (ss : List Triple) → AreAscending ss → AreAscending (put_bundle n b ss)
+AreAscending-put_bundle zero b ss rise = rise
+AreAscending-put_bundle (suc n) b ss rise = AreAscending-put _ (put_bundle n b ss) (AreAscending-put_bundle n b ss rise)
 
 pub AreAscending-all_triples : (bs : List Bundle) → AreAscending (all_triples bs)
 unfolding all_triples
 AreAscending-all_triples [] = tt
-AreAscending-all_triples (b ∷ bs) = AreAscending-put_run (b.to + 1 - b.from) b (all_triples bs) (AreAscending-all_triples bs)
+AreAscending-all_triples (b ∷ bs) = AreAscending-put_bundle (b.to + 1 - b.from) b (all_triples bs) (AreAscending-all_triples bs)
 
 pub Contains-all_triples : (bs : List Bundle) (t : Triple) → 0 < count_of t bs → Contains (all_triples bs) t
 unfolding all_triples
@@ -132,19 +132,19 @@ Contains-all_triples (b ∷ bs) t h =
       | inl of ↦
           let from : b.from ≤ t.first = of.from in
           let to : t.first ≤ b.to = of.to in
-          Contains-put_run (b.to + 1 - b.from) b (all_triples bs) t (record { from = from; to = omega arith; last = of.last; template = of.template })
-      | inr more ↦ Contains-put_run_others (b.to + 1 - b.from) b (all_triples bs) t (Contains-all_triples bs t more)
+          Contains-put_bundle (b.to + 1 - b.from) b (all_triples bs) t (record { from = from; to = omega arith; last = of.last; template = of.template })
+      | inr more ↦ Contains-put_bundle_others (b.to + 1 - b.from) b (all_triples bs) t (Contains-all_triples bs t more)
     ]
 
 pub counted-all_triples : (bs : List Bundle) (t : Triple) → Contains (all_triples bs) t → 0 < count_of t bs
 unfolding all_triples
 counted-all_triples [] t h = absurd (Contains-nil t h)
 counted-all_triples (b ∷ bs) t h =
-    elim (Contains-put_run_cases (b.to + 1 - b.from) b (all_triples bs) t h) [
-      | inl run ↦
-          let from : b.from ≤ t.first = run.from in
-          let to : t.first < b.from + (b.to + 1 - b.from) = run.to in
-          counted-head t b bs (record { from = from; to = omega arith; last = run.last; template = run.template })
+    elim (Contains-put_bundle_cases (b.to + 1 - b.from) b (all_triples bs) t h) [
+      | inl part ↦
+          let from : b.from ≤ t.first = part.from in
+          let to : t.first < b.from + (b.to + 1 - b.from) = part.to in
+          counted-head t b bs (record { from = from; to = omega arith; last = part.last; template = part.template })
       | inr more ↦ counted-tail t b bs (counted-all_triples bs t more)
     ]
 

@@ -10,11 +10,11 @@ put t [] = t ∷ []
 put t (s ∷ ss) = if precedes t s then t ∷ (s ∷ ss) else (if precedes s t then s ∷ put t ss else s ∷ ss)
 
 -- that many triples of a bundle, from its first on, put into an ascending list
-abbrev pub put_run : ℕ → Bundle → List Triple → List Triple
-put_run zero b ss = ss
-put_run (suc n) b ss = put (triple_at (b.from + n) b.last b.template) (put_run n b ss)
+abbrev pub put_bundle : ℕ → Bundle → List Triple → List Triple
+put_bundle zero b ss = ss
+put_bundle (suc n) b ss = put (triple_at (b.from + n) b.last b.template) (put_bundle n b ss)
 
 -- the triples of bundles, in order
 unfoldable pub all_triples : List Bundle → List Triple
 all_triples [] = []
-all_triples (b ∷ bs) = put_run (b.to + 1 - b.from) b (all_triples bs)
+all_triples (b ∷ bs) = put_bundle (b.to + 1 - b.from) b (all_triples bs)

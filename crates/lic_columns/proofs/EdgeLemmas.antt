@@ -12,10 +12,10 @@ use Rattle.lic_lines.specs.declared.cell.Cell.TheVariants.{Blank}
 use Rattle.lic_trim.specs.declared.cut.LineCut.{LineCut}
 use Rattle.lic_trim.specs.Lines.{whole_line, cut_of}
 use Rattle.lic_lines.specs.Cells.{cell_of, blank_for, left_of, cells_of_cut, line_cells}
-use Rattle.lic_lines.specs.Runs.{runs_joined}
+use Rattle.lic_lines.specs.Streaks.{streaks_joined}
 use Rattle.lic_lines.specs.Tokens.{Token, first_tokens}
 use Rattle.lic_trim.proofs.AsciiLemmas.{chars_of-placed, length-placed}
-use Rattle.lic_lines.proofs.Gaps.{is_word, is_mark, no_runs, runs_joined-gap, first_tokens-gap}
+use Rattle.lic_lines.proofs.Gaps.{is_word, is_mark, no_streaks, streaks_joined-gap, first_tokens-gap}
 use Rattle.lic_columns.specs.Flags.{cleared, is_within}
 use Rattle.lic_columns.specs.Known.{Known, blanked, known_of}
 use Rattle.lic_columns.specs.Edges.{edges_blanked}
@@ -202,7 +202,7 @@ module _ (cut : LineCut) (line : List SourceChar) (within : cut.lead + cut.item 
 -- ---- as many blanks as bytes are as good as one
 
 abbrev pub found : LineRules → List Cell → List Token
-found rules cells = first_tokens (runs_joined rules cells)
+found rules cells = first_tokens (streaks_joined rules cells)
 
 -- the one list gives what the other gives, wherever they are
 pub record SameIn (rules : LineRules) (one two : List Cell) : Type 0 where
@@ -210,10 +210,10 @@ pub record SameIn (rules : LineRules) (one two : List Cell) : Type 0 where
 
 module _ (rules : LineRules) where
   gap : (xs ys : List Cell) → found rules (xs ++ Blank ∷ ys) ≡ found rules xs ++ found rules ys
-  gap xs ys = ap first_tokens (runs_joined-gap rules xs ys) ∙ first_tokens-gap (runs_joined rules xs) (runs_joined rules ys)
+  gap xs ys = ap first_tokens (streaks_joined-gap rules xs ys) ∙ first_tokens-gap (streaks_joined rules xs) (streaks_joined rules ys)
 
   none_found : found rules [] ≡ []
-  none_found = ap first_tokens (no_runs rules)
+  none_found = ap first_tokens (no_streaks rules)
 
   blank_twice : (xs ys : List Cell) → found rules (xs ++ Blank ∷ Blank ∷ ys) ≡ found rules (xs ++ Blank ∷ ys)
   blank_twice xs ys =
@@ -262,7 +262,7 @@ module _ (rules : LineRules) where
 pub line_tokens_are : (rules : LineRules) (at : ℕ) (line : List ℕ) (cut : LineCut) → IsAscii line → cut ≡ cut_of rules whole_line line
     → cut.lead + cut.item + cut.tail ≤ length line
     → span_tokens true at at (known_of line).letters (text_spans rules.separators at line (edges_blanked cut 0 (length line) (known_of line)))
-    ≡ first_tokens (runs_joined rules (line_cells rules whole_line (placed at line)))
+    ≡ first_tokens (streaks_joined rules (line_cells rules whole_line (placed at line)))
 line_tokens_are rules at line cut ascii is_cut within =
     let source = placed at line in
     let long : length source ≡ length line = length-placed at line in

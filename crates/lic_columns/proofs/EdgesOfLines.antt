@@ -10,15 +10,15 @@ use Rattle.lic_kind.specs.Kinds.{is_dropped}
 use Rattle.lic_kind.specs.LineRules.{LineRules}
 use Rattle.lic_trim.specs.Lines.{whole_line, is_lead_piece, is_tail_piece, is_item_form, lets_item, item_length, lead_length, item_after_lead, tail_length, cut_of}
 use Rattle.lic_lines.specs.Cells.{cell_of, line_cells, cells_of}
-use Rattle.lic_lines.specs.Runs.{runs_joined}
+use Rattle.lic_lines.specs.Streaks.{streaks_joined}
 use Rattle.lic_trim.specs.Sources.{placed, lines_of, without_dropped}
-use Rattle.lic_trim.specs.Texts.{is_row, cut_after}
+use Rattle.lic_trim.specs.Texts.{is_sequence, cut_after}
 use Rattle.lic_lines.specs.Tokens.{first_tokens}
 use Rattle.lic_lines.specs.declared.cell.Cell.{Cell}
 use Rattle.lic_trim.specs.declared.cut.LineCut.{LineCut}
 use Rattle.lic_trim.specs.declared.source.SourceChar.{SourceChar}
 use Rattle.lic_trim.proofs.AsciiLemmas.{chars_of-placed, length-placed}
-use Rattle.lic_trim.proofs.TailRows.{greatest_le}
+use Rattle.lic_trim.proofs.TailSequences.{greatest_le}
 use Rattle.lic_columns.specs.Bytes.{is_word, is_mark, is_feed}
 use Rattle.lic_columns.specs.Edges.{AreBlank, byte_lines, edges_blanked, lines_blanked}
 use Rattle.lic_columns.specs.Flags.{cleared}
@@ -112,10 +112,10 @@ cut_within rules line cut is =
     let rest = drop lead line in
     let item = item_after_lead rules whole_line rest in
     let left = drop item rest in
-    let first : lead ≤ length line = greatest_le (λ n. is_row (is_lead_piece rules) (take n line)) (length line) in
+    let first : lead ≤ length line = greatest_le (λ n. is_sequence (is_lead_piece rules) (take n line)) (length line) in
     let second : item ≤ length rest = subst (λ l. item_length rules (rest ++ []) ≤ length l) (append-nil rest) (item_within rules (rest ++ [])) in
     let third : tail_length rules whole_line left ≤ length left =
-    greatest_le (λ n. is_row (is_tail_piece rules) (drop (length left - n) left)) (length left) in
+    greatest_le (λ n. is_sequence (is_tail_piece rules) (drop (length left - n) left)) (length left) in
     omega (
       arith,
       ap (λ (c : LineCut). c.lead) is,
@@ -166,7 +166,7 @@ module _ (rules : LineRules) (at : ℕ) (text : List ℕ) where
 
 pub lines_tokens_are : (rules : LineRules) (at : ℕ) (text : List ℕ) → IsAscii text
     → span_tokens true at at (known_of text).letters (text_spans rules.separators at text (lines_blanked rules 0 (byte_lines text) (known_of text)))
-    ≡ first_tokens (runs_joined rules (cells_of rules (placed at text)))
+    ≡ first_tokens (streaks_joined rules (cells_of rules (placed at text)))
 lines_tokens_are rules at text ascii =
     let lines = byte_lines text in
     let known : Known = lines_blanked rules 0 lines (known_of text) in

@@ -9,7 +9,7 @@ use Rattle.lic_trim.specs.Texts.{groups, join_group}
 use Rattle.lic_trim.specs.declared.source.SourceChar.{SourceChar}
 use Rattle.lic_lines.specs.declared.cell.Cell.{Cell}
 use Rattle.lic_lines.specs.declared.cell.Cell.TheVariants.{Blank, Mark, Word}
-use Rattle.lic_lines.specs.Runs.{same_family, end_after, joined, with_joined}
+use Rattle.lic_lines.specs.Streaks.{same_family, end_after, joined, with_joined}
 use Rattle.lic_lines.specs.Tokens.{Token, both_words, letters_of, token_of, tokens_from}
 use Rattle.lic_lines.proofs.GroupLemmas.{join_alone, groups_head}
 use Rattle.lic_lines.proofs.Gaps.{is_word, with_joined-at}

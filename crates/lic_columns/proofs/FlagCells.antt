@@ -6,7 +6,7 @@ use Rattle.std.proofs.lemmas.List.FromFn.{get_or-map-range_with_len, length-map-
 use Rattle.lic_kind.specs.Kinds.{is_dash, is_quote}
 use Rattle.lic_lines.specs.declared.cell.Cell.{Cell}
 use Rattle.lic_lines.specs.declared.cell.Cell.TheVariants.{Blank, Mark, Word}
-use Rattle.lic_lines.specs.Runs.{same_mark, same_family}
+use Rattle.lic_lines.specs.Streaks.{same_mark, same_family}
 use Rattle.lic_lines.proofs.Gaps.{is_word, is_mark}
 use Rattle.lic_columns.specs.Cells as columns
 use Rattle.lic_columns.specs.Cells.{cell_of, cells_of}

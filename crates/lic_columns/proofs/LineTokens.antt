@@ -17,7 +17,7 @@ use Rattle.lic_kind.specs.LineRules.{LineRules}
 use Rattle.lic_lines.specs.declared.cell.Cell.{Cell}
 use Rattle.lic_lines.specs.declared.cell.Cell.TheVariants.{Blank, Mark, Word}
 use Rattle.lic_lines.specs.Cells.{cell_of}
-use Rattle.lic_lines.specs.Runs.{runs_joined, with_joined, without_separators}
+use Rattle.lic_lines.specs.Streaks.{streaks_joined, with_joined, without_separators}
 use Rattle.lic_lines.specs.Tokens.{both_words, tokens_from, tokens_after}
 use Rattle.lic_lines.proofs.Gaps.{is_word, is_mark}
 use Rattle.lic_columns.specs.Bytes as bytes
@@ -83,16 +83,16 @@ module _ (at : ℕ) (text : List ℕ) (cells : List Cell) (known : Known) (is : 
       or-false true = refl
       or-false false = refl
 
-  run_tokens : (separators after_blank : Bool)
+  streak_tokens : (separators after_blank : Bool)
       → span_tokens after_blank at at known.letters (text_spans separators at text known)
       ≡ tokens_from after_blank (groups both_words (with_joined (if separators then without_separators cells else cells)))
-  run_tokens true after_blank = tokens_left true after_blank ∙ (parted-alike cells).tokens after_blank
-  run_tokens false after_blank = tokens_left false after_blank
+  streak_tokens true after_blank = tokens_left true after_blank ∙ (parted-alike cells).tokens after_blank
+  streak_tokens false after_blank = tokens_left false after_blank
 
   pub tokens_of_cells : (rules : LineRules) (after_blank : Bool)
       → span_tokens after_blank at at known.letters (text_spans rules.separators at text known)
-      ≡ tokens_from after_blank (groups both_words (runs_joined rules cells))
-  tokens_of_cells rules after_blank = run_tokens rules.separators after_blank
+      ≡ tokens_from after_blank (groups both_words (streaks_joined rules cells))
+  tokens_of_cells rules after_blank = streak_tokens rules.separators after_blank
 
 -- ---- bytes of ASCII
 

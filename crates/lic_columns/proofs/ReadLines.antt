@@ -5,7 +5,7 @@ use Rattle.std.proofs.lemmas.List.{length-map}
 use Rattle.std.proofs.lemmas.List.FromFn.{length-map-range_with_len}
 use Rattle.lic_kind.specs.LineRules.{LineRules}
 use Rattle.lic_lines.specs.Cells.{cells_of}
-use Rattle.lic_lines.specs.Runs.{runs_joined}
+use Rattle.lic_lines.specs.Streaks.{streaks_joined}
 use Rattle.lic_trim.specs.Sources.{placed}
 use Rattle.lic_lines.specs.Tokens.{first_tokens}
 use Rattle.lic_columns.specs.Bytes.{letter}
@@ -65,7 +65,7 @@ module _ (rules : LineRules) (at : ℕ) (text : List ℕ) (known : Known) (is : 
         (omega (arith, b.0, start), omega (arith, b.1, start, end), omega (arith, b.2, end, long_cells))
 
     pub tokens_of_text : IsAscii text → span_tokens true at at letters (spans_by starts ends)
-        ≡ first_tokens (runs_joined rules (cells_of rules (placed at text)))
+        ≡ first_tokens (streaks_joined rules (cells_of rules (placed at text)))
     tokens_of_text ascii =
         ap (λ l. span_tokens true at at l (spans_by starts ends)) letters_of_text
         ∙ ap₂ (λ s e. span_tokens true at at (map letter text) (spans_by s e)) starts_are ends_are

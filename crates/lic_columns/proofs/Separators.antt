@@ -7,7 +7,7 @@ use Rattle.lic_trim.specs.Texts.{groups, join_group}
 use Rattle.lic_trim.specs.declared.source.SourceChar.{SourceChar}
 use Rattle.lic_lines.specs.declared.cell.Cell.{Cell}
 use Rattle.lic_lines.specs.declared.cell.Cell.TheVariants.{Blank, Mark, Word}
-use Rattle.lic_lines.specs.Runs.{same_mark, without_separator, without_separators}
+use Rattle.lic_lines.specs.Streaks.{same_mark, without_separator, without_separators}
 use Rattle.lic_lines.proofs.GroupLemmas.{groups_head}
 use Rattle.lic_columns.proofs.FirstTokens.{cell_tokens, next, Alike, alike-same, alike-then, alike-cons, alike-append, alike-blank}
 
@@ -51,33 +51,33 @@ long_is (x ∷ y ∷ cells) = go (length cells)
     go : (n : ℕ) → nat_le 2 (suc (suc n)) ≡ true
     go n = le-leb 2 (suc (suc n)) (omega arith)
 
--- a run of a mark, whose first cell is after two such tests, is taken out
-abbrev run_gone : Bool → Bool → List Cell → Bool
-run_gone two one run = (two && one) || ((one && is_some run) || is_long run)
+-- a streak of a mark, whose first cell is after two such tests, is taken out
+abbrev streak_gone : Bool → Bool → List Cell → Bool
+streak_gone two one streak = (two && one) || ((one && is_some streak) || is_long streak)
 
 abbrev blanks : List Cell → List Cell
 blanks = map (λ x. Blank)
 
-abbrev laid_run : Bool → List Cell → List Cell
-laid_run gone [] = []
-laid_run gone (Blank ∷ run) = Blank ∷ run
-laid_run gone (Word s ∷ run) = Word s ∷ run
-laid_run gone (Mark s ∷ run) = if gone then Blank ∷ blanks run else Mark s ∷ run
+abbrev laid_streak : Bool → List Cell → List Cell
+laid_streak gone [] = []
+laid_streak gone (Blank ∷ streak) = Blank ∷ streak
+laid_streak gone (Word s ∷ streak) = Word s ∷ streak
+laid_streak gone (Mark s ∷ streak) = if gone then Blank ∷ blanks streak else Mark s ∷ streak
 
-abbrev run_rest : List Cell → List Cell
-run_rest [] = []
-run_rest (x ∷ run) = run
+abbrev streak_rest : List Cell → List Cell
+streak_rest [] = []
+streak_rest (x ∷ streak) = streak
 
 abbrev laid_out : Bool → Bool → List (List Cell) → List Cell
 laid_out two one [] = []
-laid_out two one (run ∷ gs) = laid_run (run_gone two one (run_rest run)) run ++ laid_out false false gs
+laid_out two one (streak ∷ gs) = laid_streak (streak_gone two one (streak_rest streak)) streak ++ laid_out false false gs
 
 same_none : (x : Cell) → same_mark x Blank ≡ false
 same_none Blank = refl
 same_none (Mark s) = refl
 same_none (Word s) = refl
 
--- the first group is a run
+-- the first group is a streak
 group_shape : (y : Cell) (ys : List Cell)
     → (g : List Cell) × (hs : List (List Cell)) × (groups same_mark (y ∷ ys) ≡ (y ∷ g) ∷ hs) × (is_some g ≡ same_first (y ∷ ys))
 group_shape y [] = ([], [], refl, sym (same_none y))
@@ -88,10 +88,10 @@ group_shape y (z ∷ zs) =
     (λ miss. ([], (z ∷ g.0) ∷ g.1, ap (join_group same_mark y) g.2 ∙ cond-false (same_mark y z) _ _ miss, sym miss))
     (cases_Bool (same_mark y z))
 
--- one mark more before a run
+-- one mark more before a streak
 mark_more : (two one : Bool) (s t : SourceChar) (g rest : List Cell)
-    → unmarked (is_gone two one true (is_some g)) (Mark s) ∷ (laid_run (run_gone one true g) (Mark t ∷ g) ++ rest)
-    ≡ laid_run (run_gone two one (Mark t ∷ g)) (Mark s ∷ Mark t ∷ g) ++ rest
+    → unmarked (is_gone two one true (is_some g)) (Mark s) ∷ (laid_streak (streak_gone one true g) (Mark t ∷ g) ++ rest)
+    ≡ laid_streak (streak_gone two one (Mark t ∷ g)) (Mark s ∷ Mark t ∷ g) ++ rest
 mark_more true true s t [] rest = refl
 mark_more true false s t [] rest = refl
 mark_more false true s t [] rest = refl
@@ -103,7 +103,7 @@ mark_more false false s t (x ∷ g) rest = refl
 
 -- one cell alone
 cell_alone : (two one after : Bool) (x : Cell) (rest : List Cell)
-    → unmarked (is_gone two one false after) x ∷ rest ≡ laid_run (run_gone two one []) (x ∷ []) ++ rest
+    → unmarked (is_gone two one false after) x ∷ rest ≡ laid_streak (streak_gone two one []) (x ∷ []) ++ rest
 cell_alone two one after Blank rest = refl
 cell_alone two one after (Word s) rest = refl
 cell_alone true true after (Mark s) rest = refl
@@ -111,11 +111,11 @@ cell_alone true false after (Mark s) rest = refl
 cell_alone false true after (Mark s) rest = refl
 cell_alone false false after (Mark s) rest = refl
 
--- what comes before a run without being of it has no effect
+-- what comes before a streak without being of it has no effect
 laid_out-other : (two : Bool) (gs : List (List Cell)) → laid_out two false gs ≡ laid_out false false gs
 laid_out-other two [] = refl
-laid_out-other true (run ∷ gs) = refl
-laid_out-other false (run ∷ gs) = refl
+laid_out-other true (streak ∷ gs) = refl
+laid_out-other false (streak ∷ gs) = refl
 
 -- the cells as they are given by their groups, wherever they are
 abbrev AreLaidOut : List Cell → Type 0
@@ -128,7 +128,7 @@ parted-other two one x y ys miss rest =
     ap (λ u. unmarked (is_gone two one u (same_first (y ∷ ys))) x ∷ parted one u (y ∷ ys)) miss
     ∙ ap (λ l. unmarked (is_gone two one false (same_first (y ∷ ys))) x ∷ l) (rest one false ∙ laid_out-other one (groups same_mark (y ∷ ys)))
     ∙ cell_alone two one (same_first (y ∷ ys)) x (laid_out false false (groups same_mark (y ∷ ys)))
-    ∙ ap (λ l. laid_run (run_gone two one []) (x ∷ []) ++ laid_out false false l) shape.2
+    ∙ ap (λ l. laid_streak (streak_gone two one []) (x ∷ []) ++ laid_out false false l) shape.2
     ∙ sym (ap (laid_out two one) (ap (join_group same_mark x) shape.2 ∙ cond-false (same_mark x y) _ _ miss))
 
 parted-marks : (two one : Bool) (s t : SourceChar) (ys : List Cell) → same_mark (Mark s) (Mark t) ≡ true → AreLaidOut (Mark t ∷ ys)
@@ -164,30 +164,30 @@ parted-groups two one (x ∷ y ∷ ys) =
 
 -- ---- as many blanks as marks are as good as one
 
-alike-blanks : (run cells : List Cell) → Alike (Blank ∷ blanks run ++ cells) (Blank ∷ cells)
+alike-blanks : (streak cells : List Cell) → Alike (Blank ∷ blanks streak ++ cells) (Blank ∷ cells)
 alike-blanks [] cells = alike-same (Blank ∷ cells)
-alike-blanks (x ∷ run) cells =
-    alike-then (Blank ∷ Blank ∷ blanks run ++ cells) (Blank ∷ blanks run ++ cells) (Blank ∷ cells)
-    (alike-blank (blanks run ++ cells)) (alike-blanks run cells)
+alike-blanks (x ∷ streak) cells =
+    alike-then (Blank ∷ Blank ∷ blanks streak ++ cells) (Blank ∷ blanks streak ++ cells) (Blank ∷ cells)
+    (alike-blank (blanks streak ++ cells)) (alike-blanks streak cells)
 
-run_alike : (run one two : List Cell) → Alike one two
-    → Alike (laid_run (run_gone false false (run_rest run)) run ++ one) (without_separator run ++ two)
-run_alike [] one two h = h
-run_alike (Blank ∷ run) one two h = alike-append (Blank ∷ run) one two h
-run_alike (Word s ∷ run) one two h = alike-append (Word s ∷ run) one two h
-run_alike (Mark s ∷ run) one two h = go (is_long run) (nat_le 2 (length run)) (sym (long_is run))
+streak_alike : (streak one two : List Cell) → Alike one two
+    → Alike (laid_streak (streak_gone false false (streak_rest streak)) streak ++ one) (without_separator streak ++ two)
+streak_alike [] one two h = h
+streak_alike (Blank ∷ streak) one two h = alike-append (Blank ∷ streak) one two h
+streak_alike (Word s ∷ streak) one two h = alike-append (Word s ∷ streak) one two h
+streak_alike (Mark s ∷ streak) one two h = go (is_long streak) (nat_le 2 (length streak)) (sym (long_is streak))
   where
     go : (t u : Bool) → t ≡ u
-        → Alike ((if t then Blank ∷ blanks run else Mark s ∷ run) ++ one) ((if u then Blank ∷ [] else Mark s ∷ run) ++ two)
+        → Alike ((if t then Blank ∷ blanks streak else Mark s ∷ streak) ++ one) ((if u then Blank ∷ [] else Mark s ∷ streak) ++ two)
     go true true e =
-        alike-then (Blank ∷ blanks run ++ one) (Blank ∷ one) (Blank ∷ two) (alike-blanks run one) (alike-cons Blank one two h)
-    go false false e = alike-append (Mark s ∷ run) one two h
+        alike-then (Blank ∷ blanks streak ++ one) (Blank ∷ one) (Blank ∷ two) (alike-blanks streak one) (alike-cons Blank one two h)
+    go false false e = alike-append (Mark s ∷ streak) one two h
     go true false e = absurd cc
     go false true e = absurd cc
 
 laid-alike : (gs : List (List Cell)) → Alike (laid_out false false gs) (flat_map without_separator gs)
 laid-alike [] = alike-same []
-laid-alike (run ∷ gs) = run_alike run (laid_out false false gs) (flat_map without_separator gs) (laid-alike gs)
+laid-alike (streak ∷ gs) = streak_alike streak (laid_out false false gs) (flat_map without_separator gs) (laid-alike gs)
 
 -- cells without separators have the tokens of the cells of the definition
 pub parted-alike : (cells : List Cell) → Alike (parted false false cells) (without_separators cells)

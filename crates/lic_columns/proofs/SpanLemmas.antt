@@ -7,7 +7,7 @@ use Rattle.lic_kind.specs.Kinds.{spell, is_dash, is_quote}
 use Rattle.lic_trim.specs.declared.source.SourceChar.{SourceChar}
 use Rattle.lic_lines.specs.declared.cell.Cell.{Cell}
 use Rattle.lic_lines.specs.declared.cell.Cell.TheVariants.{Blank, Mark, Word}
-use Rattle.lic_lines.specs.Runs.{same_family}
+use Rattle.lic_lines.specs.Streaks.{same_family}
 use Rattle.lic_lines.specs.Tokens.{Token}
 use Rattle.lic_columns.specs.Cells as columns
 use Rattle.lic_columns.specs.Cells.{Span, from_here, next_cell, with_cell, spans, continues, is_blank}

@@ -69,7 +69,7 @@ with_cell at true more spans = spans
 with_cell at false true spans = from_here at spans
 with_cell at false false spans = record { start = at; end = suc at } ∷ spans
 
--- the tokens of these cells, of which the first occurs at this place: each longest run of cells of which each continues with the one before it
+-- the tokens of these cells, of which the first occurs at this place: each longest streak of cells of which each continues with the one before it
 abbrev pub spans : ℕ → List Cell → List Span
 spans at [] = []
 spans at (c ∷ cells) = with_cell at (is_blank c) (continues c (next_cell cells)) (spans (suc at) cells)

@@ -1,4 +1,4 @@
--- Runs of marks by their flags: separators go, quotes and dashes are joined.
+-- Streaks of marks by their flags: separators go, quotes and dashes are joined.
 use Rattle.std.specs.Prelude.{ℕ, suc, Bool, not, ◌&&◌, ◌||◌, ◌==◌, List, map, length, slice_index}
 use Rattle.std.specs.List.{range_with_len}
 use Rattle.lic_columns.specs.Masks.{flag_at, flag_before}

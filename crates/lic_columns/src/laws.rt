@@ -3,7 +3,7 @@ ghost use Rattle.std.specs.Prelude.{◌≡◌, ◌↔◌, ℕ, suc, ◌+◌, ◌
 ghost use Rattle.lic_kind.specs.LineRules.{LineRules};
 ghost use Rattle.lic_trim.specs.Lines.{cut_of, whole_line};
 ghost use Rattle.lic_lines.specs.Cells.{cells_of, line_cells};
-ghost use Rattle.lic_lines.specs.Runs.{runs_joined};
+ghost use Rattle.lic_lines.specs.Streaks.{streaks_joined};
 ghost use Rattle.lic_trim.specs.Sources.{placed};
 ghost use Rattle.lic_lines.specs.Tokens.{first_tokens, tokens_after};
 ghost use Rattle.lic_trim.specs.declared.cut.LineCut.{LineCut};
@@ -29,7 +29,7 @@ pub fn separators_are_three_or_more()
 {}
 
 /// The tokens of the spans of a text of ASCII of which nothing is taken away are the first tokens of its characters: the longest
-/// runs of word characters and each mark, once separators are blanks and quotes and dashes are joined.
+/// streaks of word characters and each mark, once separators are blanks and quotes and dashes are joined.
 pub fn spans_are_first_tokens()
     ensures { (rules : LineRules) (after_blank : Bool) (at : ℕ) (text : List ℕ) → IsAscii text
         → span_tokens after_blank at at (known_of text).letters (text_spans rules.separators at text (known_of text))
@@ -43,7 +43,7 @@ pub fn edges_are_blanks()
         → cut ≡ cut_of rules whole_line line → cut.lead + cut.item + cut.tail ≤ length line
         → span_tokens true at at (known_of line).letters
         (text_spans rules.separators at line (edges_blanked cut 0 (length line) (known_of line)))
-        ≡ first_tokens (runs_joined rules (line_cells rules whole_line (placed at line))) }
+        ≡ first_tokens (streaks_joined rules (line_cells rules whole_line (placed at line))) }
 {}
 
 /// The same of a text of ASCII of any number of lines, of which the last may have no line feed.
@@ -51,5 +51,5 @@ pub fn edges_of_lines_are_blanks()
     ensures { (rules : LineRules) (at : ℕ) (text : List ℕ) → IsAscii text
         → span_tokens true at at (known_of text).letters
         (text_spans rules.separators at text (lines_blanked rules 0 (byte_lines text) (known_of text)))
-        ≡ first_tokens (runs_joined rules (cells_of rules (placed at text))) }
+        ≡ first_tokens (streaks_joined rules (cells_of rules (placed at text))) }
 {}

@@ -2,7 +2,7 @@
 ghost use Rattle.std.specs.Prelude.{◌≡◌, ℕ, ◌+◌, ◌^◌, ◌<◌, ◌≤◌, [], true, length, map, slice_index, string_bytes, OnOk, IsAscii};
 ghost use Rattle.lic_kind.specs.LineRules.{rules_of};
 ghost use Rattle.lic_lines.specs.Cells.{cells_of};
-ghost use Rattle.lic_lines.specs.Runs.{runs_joined};
+ghost use Rattle.lic_lines.specs.Streaks.{streaks_joined};
 ghost use Rattle.lic_trim.specs.Sources.{placed};
 ghost use Rattle.lic_lines.specs.Tokens.{first_tokens};
 ghost use Rattle.lic_columns.specs.Bytes.{letter};
@@ -151,7 +151,7 @@ impl Lines {
         ensures to { OnOk result ((i : ℕ) → i < length self.new.starts
             → slice_index self.new.ends i ≤ at + length self.new.letters) }
         ensures tokens { OnOk result (span_tokens true at at self.new.letters (spans_by self.new.starts self.new.ends)
-            ≡ first_tokens (runs_joined (rules_of rules.now) (cells_of (rules_of rules.now) (placed at text.now)))) }
+            ≡ first_tokens (streaks_joined (rules_of rules.now) (cells_of (rules_of rules.now) (placed at text.now)))) }
     {
         let bytes = text.as_bytes();
         self.columns.read(bytes)?;

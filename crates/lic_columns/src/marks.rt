@@ -1,4 +1,4 @@
-//! Runs of marks: separators go, quotes and dashes are joined.
+//! Streaks of marks: separators go, quotes and dashes are joined.
 ghost use Rattle.std.specs.Prelude.{◌≡◌, ℕ, ◌+◌, ◌*◌, ◌<◌, [], length, IfOk, if◌then◌else◌};
 ghost use Rattle.lic_columns.specs.Masks.{has_bit};
 ghost use Rattle.lic_columns.specs.Marks.{is_same_as_next, same_as_next, is_middle, middles, kept_by, without_separators, is_joined, joined_by, joined_marks};

@@ -6,6 +6,9 @@ ghost use Rattle.lic_columns.specs.Places.{places};
 
 use std::alloc::AllocError;
 
+// How many bits a mask has.
+const BITS: usize = 64;
+
 // The number of the highest bit.
 const LAST: u32 = 63;
 
@@ -15,7 +18,7 @@ pub fn below(n: usize) -> u64
     requires { n ≤ 64 }
     ensures { result ≡ 2 ^ n - 1 }
 {
-    if n < 64 { (1u64 << n) - 1 } else { u64::MAX }
+    if n < BITS { (1u64 << n) - 1 } else { u64::MAX }
 }
 
 /// The mask without its bits of a range.

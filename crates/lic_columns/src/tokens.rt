@@ -68,7 +68,7 @@ pub fn push_spans(
     Ok(())
 }
 
-/// Adds the places where the tokens of a text begin, and those after the places where they end: each longest run of bytes of a
+/// Adds the places where the tokens of a text begin, and those after the places where they end: each longest streak of bytes of a
 /// word, and each mark that is in no separator, or row of quotes or of dashes. The text begins at this place. The marks
 /// may hold anything before.
 ///

@@ -8,7 +8,7 @@ use std::test::Fail;
 
 /// Arguments and input of a call, and what comes of it.
 #[derive(Clone, Copy)]
-struct Row {
+struct Case {
     arguments: &'static [&'static str],
     input: &'static [u8],
     output: &'static [u8],
@@ -16,29 +16,29 @@ struct Row {
     status: u8,
 }
 
-const ROWS: &[Row] = &[
-    Row {
+const CASES: &[Case] = &[
+    Case {
         arguments: &["tokens"],
         input: b"foo bar",
         output: b"-\t0\t3\tfoo\n-\t4\t7\tbar\n",
         errors: b"",
         status: 0,
     },
-    Row {
+    Case {
         arguments: &["tokens", "-"],
         input: b"",
         output: b"",
         errors: b"",
         status: 1,
     },
-    Row {
+    Case {
         arguments: &["tokens", "no\tfile", "-"],
         input: b"foo",
         output: b"-\t0\t3\tfoo\n",
         errors: b"licscan: no\\tfile: cannot be read\n",
         status: 2,
     },
-    Row {
+    Case {
         arguments: &["check", "--templates", "no folder"],
         input: b"",
         output: b"",
@@ -91,17 +91,17 @@ fn call<Rt: Files + AllocGlobal + Clone + Drop>(
 
 #[test]
 fn a_call_ends_with_its_status(rt: HostRuntime) {
-    for row in ROWS {
-        let input = Pieces::of(row.input);
+    for case in CASES {
+        let input = Pieces::of(case.input);
         let ended = call(
             &rt,
             rt.alloc(),
-            row.arguments,
+            case.arguments,
             input,
-            row.output,
-            row.errors,
+            case.output,
+            case.errors,
         );
-        assert_eq!(rt; ended, (row.status, true, true), "{:?}", row.arguments);
+        assert_eq!(rt; ended, (case.status, true, true), "{:?}", case.arguments);
     }
 }
 

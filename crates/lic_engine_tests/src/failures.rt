@@ -48,39 +48,39 @@ const OUTER: Call = Call::Run(Ask {
 
 /// A call, its templates and its input, and what it writes.
 #[derive(Clone, Copy)]
-struct Row {
+struct Case {
     call: Call,
     templates: Templates,
     input: &'static [u8],
     report: &'static [u8],
 }
 
-const ROWS: &[Row] = &[
-    Row {
+const CASES: &[Case] = &[
+    Case {
         call: ALL,
         templates: ONE,
         input: b"foo bar foo bar",
         report: b"-\tA\t0\t1\t0\t7\n-\tA\t2\t3\t8\t15\n",
     },
-    Row {
+    Case {
         call: OUTER,
         templates: TWO,
         input: b"foo bar",
         report: b"-\tA\t0\t1\t0\t7\n-\tB\t0\t1\t0\t7\n\tw\t4\t7\tbar\n",
     },
-    Row {
+    Case {
         call: OUTER,
         templates: LETTERS,
         input: b"foo bar foo bar",
         report: b"-\tA\t0\t1\t0\t7\n\tv\t4\t7\tbar\n-\tA\t2\t3\t8\t15\n\tv\t12\t15\tbar\n",
     },
-    Row {
+    Case {
         call: Call::Tokens,
         templates: &[],
         input: b"foo bar",
         report: b"-\t0\t3\tfoo\n-\t4\t7\tbar\n",
     },
-    Row {
+    Case {
         call: Call::Check,
         templates: ONE,
         input: b"",
@@ -89,10 +89,10 @@ const ROWS: &[Row] = &[
 ];
 
 /// How many reads a call makes: one for each byte of its input, and one that finds its end.
-fn count_reads(row: &Row) -> usize {
-    match row.call {
+fn count_reads(case: &Case) -> usize {
+    match case.call {
         Call::Check => 0,
-        _ => row.input.len() + 1,
+        _ => case.input.len() + 1,
     }
 }
 
@@ -112,16 +112,16 @@ type Outcome = (Result<bool, RunFault>, bool, u64);
 /// Makes a call by the rules of the profile. The read of this number fails, and the writer has room for this beginning.
 fn outcome_of(
     alloc: Global,
-    row: &Row,
+    case: &Case,
     fails_at: usize,
     room: &'static [u8],
 ) -> Result<Outcome, Fail> {
     let words = Words::none(alloc);
     let rules = Rules::profile(alloc);
-    let set = set_of(alloc, row.templates, &words, &rules)?;
-    let mut input = Pieces::failing(row.input, fails_at);
+    let set = set_of(alloc, case.templates, &words, &rules)?;
+    let mut input = Pieces::failing(case.input, fails_at);
     let mut out = Awaited::of(room);
-    let answer = match &row.call {
+    let answer = match &case.call {
         Call::Run(ask) => run(alloc, "-", &mut input, &mut out, &set, &words, &rules, ask),
         Call::Tokens => run_tokens(alloc, "-", &mut input, &mut out, &words, &rules),
         Call::Check => check(alloc, &set, &words, &mut out, &rules),
@@ -130,45 +130,45 @@ fn outcome_of(
 }
 
 /// Makes a call with each of its reads failed in turn, and with none.
-fn fail_reads(rt: &impl Abort, alloc: Global, row: &Row) -> Result<(), Fail> {
-    let reads = count_reads(row);
+fn fail_reads(rt: &impl Abort, alloc: Global, case: &Case) -> Result<(), Fail> {
+    let reads = count_reads(case);
     for k in 0..reads {
-        let outcome = outcome_of(alloc, row, k + 1, b"")?;
+        let outcome = outcome_of(alloc, case, k + 1, b"")?;
         assert_eq!(rt; outcome, (Err(RunFault::Read), true, 0), "read {k}");
     }
-    let outcome = outcome_of(alloc, row, reads.saturating_add(1), row.report)?;
+    let outcome = outcome_of(alloc, case, reads.saturating_add(1), case.report)?;
     assert_eq!(rt; outcome, (Ok(true), true, 0), "no read failed");
     Ok(())
 }
 
 #[test]
 fn a_failed_read_writes_nothing(rt: HostRuntime) -> Result<(), Fail> {
-    for row in ROWS {
-        fail_reads(&rt, rt.alloc(), row)?;
+    for case in CASES {
+        fail_reads(&rt, rt.alloc(), case)?;
     }
     Ok(())
 }
 
 /// Makes a call with room for each beginning of what it writes, and for all of it.
-fn fail_writes(rt: &impl Abort, alloc: Global, row: &Row) -> Result<(), Fail> {
-    let all = row.report.len();
+fn fail_writes(rt: &impl Abort, alloc: Global, case: &Case) -> Result<(), Fail> {
+    let all = case.report.len();
     for room in 0..all {
-        let outcome = outcome_of(alloc, row, 0, &row.report[..room])?;
+        let outcome = outcome_of(alloc, case, 0, &case.report[..room])?;
         assert_eq!(rt;
             outcome,
             (Err(RunFault::Write), true, 1),
             "with room for {room}"
         );
     }
-    let outcome = outcome_of(alloc, row, 0, row.report)?;
+    let outcome = outcome_of(alloc, case, 0, case.report)?;
     assert_eq!(rt; outcome, (Ok(true), true, 0), "with room for all");
     Ok(())
 }
 
 #[test]
 fn a_failed_write_keeps_a_beginning(rt: HostRuntime) -> Result<(), Fail> {
-    for row in ROWS {
-        fail_writes(&rt, rt.alloc(), row)?;
+    for case in CASES {
+        fail_writes(&rt, rt.alloc(), case)?;
     }
     Ok(())
 }

@@ -87,51 +87,51 @@ pub member_read : {x : Located} {after more : List Located} {m : Member} → IsM
 member_read (alone {x = x} {rest = rest} a b) = alone_read x rest a (not_begins x.1 rest b)
 member_read (range {x = x} {hyphen = h} {y = y} {rest = rest} a b c d) = range_read x h y rest a b c (not_begins y.1 rest d)
 
-members_read : (place : ℕ) {cs rest : List Located} {ms : List Member} → IsMembers cs rest ms → members_of place false cs ≡ Ok (ms, rest)
+members_read : (offset : ℕ) {cs rest : List Located} {ms : List Member} → IsMembers cs rest ms → members_of offset false cs ≡ Ok (ms, rest)
 unfolding members_at member_of
-members_read place (closed {x = x} e) = let test : (x.1 == close_bracket) ≡ true = eq-eqb _ _ e in rw test refl
-members_read place (one_further {x = x} {after = after} {more = more} {m = m} ne is others) =
-    members_turn place false x after (not_this x.1 close_bracket ne) (x ∷ after) m more refl (member_read is) ∙ ap (following (m ∷ [])) (members_read place others)
+members_read offset (closed {x = x} e) = let test : (x.1 == close_bracket) ≡ true = eq-eqb _ _ e in rw test refl
+members_read offset (one_further {x = x} {after = after} {more = more} {m = m} ne is others) =
+    members_turn offset false x after (not_this x.1 close_bracket ne) (x ∷ after) m more refl (member_read is) ∙ ap (following (m ∷ [])) (members_read offset others)
 
-first_by : (place : ℕ) (cs more rest : List Located) (m : Member) (ms : List Member) → IsMember cs more m
-    → members_of place false more ≡ Ok (ms, rest) → members_of place true cs ≡ Ok (m ∷ ms, rest)
+first_by : (offset : ℕ) (cs more rest : List Located) (m : Member) (ms : List Member) → IsMember cs more m
+    → members_of offset false more ≡ Ok (ms, rest) → members_of offset true cs ≡ Ok (m ∷ ms, rest)
 unfolding member_of
-first_by place [] more rest m ms is others = elim is [ ]
-first_by place (x ∷ after) more rest m ms is others =
-    members_turn place true x after refl (x ∷ after) m more refl (member_read is) ∙ ap (following (m ∷ [])) others
+first_by offset [] more rest m ms is others = elim is [ ]
+first_by offset (x ∷ after) more rest m ms is others =
+    members_turn offset true x after refl (x ∷ after) m more refl (member_read is) ∙ ap (following (m ∷ [])) others
 
-first_read : (place : ℕ) {cs rest : List Located} {ms : List Member} → IsFirstMembers cs rest ms → members_of place true cs ≡ Ok (ms, rest)
-first_read place (members {cs = cs} {more = more} {rest = rest} {m = m} {ms = ms} is others) = first_by place cs more rest m ms is (members_read place others)
+first_read : (offset : ℕ) {cs rest : List Located} {ms : List Member} → IsFirstMembers cs rest ms → members_of offset true cs ≡ Ok (ms, rest)
+first_read offset (members {cs = cs} {more = more} {rest = rest} {m = m} {ms = ms} is others) = first_by offset cs more rest m ms is (members_read offset others)
 
-sign_then : (place : ℕ) (sign : Bool × ℕ) (cs : List Located)
+sign_then : (offset : ℕ) (sign : Bool × ℕ) (cs : List Located)
     → map_ok (with_remaining cs) (map_ok (λ ms. (record { members = ms.0; complement = sign.0 }, sign.1 + ms.1))
-    (members_at place true 0 (drop sign.1 cs)))
+    (members_at offset true 0 (drop sign.1 cs)))
     ≡ map_ok {A = List Member × List Located} {B =
     Brackets × List Located} (λ y. (record { members = y.0; complement = sign.0 }, y.1))
-    (members_of place true (drop sign.1 cs))
-sign_then place sign cs =
-    map_ok-map_ok (with_remaining cs) (λ ms. (record { members = ms.0; complement = sign.0 }, sign.1 + ms.1)) (members_at place true 0 (drop sign.1 cs))
+    (members_of offset true (drop sign.1 cs))
+sign_then offset sign cs =
+    map_ok-map_ok (with_remaining cs) (λ ms. (record { members = ms.0; complement = sign.0 }, sign.1 + ms.1)) (members_at offset true 0 (drop sign.1 cs))
     ∙ map_ok-same _ (λ ms. (record { members = ms.0; complement = sign.0 }, drop ms.1 (drop sign.1 cs)))
-    (members_at place true 0 (drop sign.1 cs)) (λ ms.
+    (members_at offset true 0 (drop sign.1 cs)) (λ ms.
     ap (λ (l : List Located). (record { members = ms.0; complement = sign.0 }, l))
     (sym (drop-drop ms.1 sign.1 cs)))
-    ∙ sym (map_ok-map_ok (λ y. (record { members = y.0; complement = sign.0 }, y.1)) (with_remaining (drop sign.1 cs)) (members_at place true 0 (drop sign.1 cs)))
+    ∙ sym (map_ok-map_ok (λ y. (record { members = y.0; complement = sign.0 }, y.1)) (with_remaining (drop sign.1 cs)) (members_at offset true 0 (drop sign.1 cs)))
 
 abbrev bracket_by : ℕ → Bool × ℕ → List Located → Result (Brackets × List Located) EreFault
-bracket_by place sign cs = map_ok (with_remaining cs)
+bracket_by offset sign cs = map_ok (with_remaining cs)
     (map_ok (λ ms. (record { members = ms.0; complement = sign.0 }, sign.1 + ms.1))
-    (members_at place true 0 (drop sign.1 cs)))
+    (members_at offset true 0 (drop sign.1 cs)))
 
 abbrev with_sign : Bool → Result (List Member × List Located) EreFault → Result (Brackets × List Located) EreFault
 with_sign sign r = map_ok (λ y. (record { members = y.0; complement = sign }, y.1)) r
 
 -- a bracket, and what comes after it
 abbrev pub bracket_of : ℕ → List Located → Result (Brackets × List Located) EreFault
-bracket_of place cs = map_ok (with_remaining cs) (bracket_at place cs)
+bracket_of offset cs = map_ok (with_remaining cs) (bracket_at offset cs)
 
-bracket_of-is : (place : ℕ) (cs : List Located) → bracket_of place cs ≡ bracket_by place (complement_at cs) cs
+bracket_of-is : (offset : ℕ) (cs : List Located) → bracket_of offset cs ≡ bracket_by offset (complement_at cs) cs
 unfolding bracket_at
-bracket_of-is place cs = refl
+bracket_of-is offset cs = refl
 
 plain_sign : (x : Located) (cs : List Located) → (x.1 == caret) ≡ false → complement_at (x ∷ cs) ≡ (false, 0)
 plain_sign x cs e = rw e refl
@@ -139,16 +139,16 @@ plain_sign x cs e = rw e refl
 complement_sign : (x : Located) (cs : List Located) → (x.1 == caret) ≡ true → complement_at (x ∷ cs) ≡ (true, 1)
 complement_sign x cs e = rw e refl
 
-pub plain_is : (place : ℕ) (x : Located) (cs : List Located) → (x.1 == caret) ≡ false → bracket_of place (x ∷ cs) ≡ with_sign false (members_of place true (x ∷ cs))
-plain_is place x cs e = bracket_of-is place (x ∷ cs) ∙ ap (λ s. bracket_by place s (x ∷ cs)) (plain_sign x cs e) ∙ sign_then place (false, 0) (x ∷ cs)
+pub plain_is : (offset : ℕ) (x : Located) (cs : List Located) → (x.1 == caret) ≡ false → bracket_of offset (x ∷ cs) ≡ with_sign false (members_of offset true (x ∷ cs))
+plain_is offset x cs e = bracket_of-is offset (x ∷ cs) ∙ ap (λ s. bracket_by offset s (x ∷ cs)) (plain_sign x cs e) ∙ sign_then offset (false, 0) (x ∷ cs)
 
-pub complement_is : (place : ℕ) (x : Located) (cs : List Located) → (x.1 == caret) ≡ true → bracket_of place (x ∷ cs) ≡ with_sign true (members_of place true cs)
-complement_is place x cs e = bracket_of-is place (x ∷ cs) ∙ ap (λ s. bracket_by place s (x ∷ cs)) (complement_sign x cs e) ∙ sign_then place (true, 1) (x ∷ cs)
+pub complement_is : (offset : ℕ) (x : Located) (cs : List Located) → (x.1 == caret) ≡ true → bracket_of offset (x ∷ cs) ≡ with_sign true (members_of offset true cs)
+complement_is offset x cs e = bracket_of-is offset (x ∷ cs) ∙ ap (λ s. bracket_by offset s (x ∷ cs)) (complement_sign x cs e) ∙ sign_then offset (true, 1) (x ∷ cs)
 
 -- the bracket that is spelled is read
-pub IsBracket-read : (place : ℕ) {cs rest : List Located} {b : Brackets} → IsBracket cs rest b → bracket_of place cs ≡ Ok (b, rest)
-IsBracket-read place (plain {x = x} {cs = cs} ne is) = plain_is place x cs (not_this x.1 caret ne) ∙ ap (with_sign false) (first_read place is)
-IsBracket-read place (complement {x = x} {cs = cs} e is) = complement_is place x cs (eq-eqb _ _ e) ∙ ap (with_sign true) (first_read place is)
+pub IsBracket-read : (offset : ℕ) {cs rest : List Located} {b : Brackets} → IsBracket cs rest b → bracket_of offset cs ≡ Ok (b, rest)
+IsBracket-read offset (plain {x = x} {cs = cs} ne is) = plain_is offset x cs (not_this x.1 caret ne) ∙ ap (with_sign false) (first_read offset is)
+IsBracket-read offset (complement {x = x} {cs = cs} e is) = complement_is offset x cs (eq-eqb _ _ e) ∙ ap (with_sign true) (first_read offset is)
 
 -- ---- what is read is spelled
 
@@ -211,7 +211,7 @@ member_spelled x (h ∷ []) more m is = single_by x (h ∷ []) more m _ (begins_
 member_spelled x (h ∷ y ∷ rest) more m is = member_by x h y rest more m (h.1 == dash && not (y.1 == close_bracket)) refl is
 
 Spelled : ℕ → List Located → Type 0
-Spelled place xs = (n : ℕ) (ms : List Member) (k : ℕ) → members_at place false n xs ≡ Ok (ms, k) → IsMembers (drop n xs) (drop k xs) ms
+Spelled offset xs = (n : ℕ) (ms : List Member) (k : ℕ) → members_at offset false n xs ≡ Ok (ms, k) → IsMembers (drop n xs) (drop k xs) ms
 
 -- one character more
 past_one : (x : Located) (xs cs : List Located) (ms ns : List Member) (j k : ℕ) → found ns (1 + j) ≡ found ms k
@@ -229,7 +229,7 @@ skip_by x xs cs ms k (Err d) all e = absurd cc
 
 -- a member, and the members after it
 abbrev member_then : ℕ → List Located → Result (Member × ℕ) EreFault → Result (List Member × ℕ) EreFault
-member_then place xs r = r >>= λ m. map_ok (λ ms. (m.0 ∷ ms.0, 1 + ms.1)) (members_at place false m.1 xs)
+member_then offset xs r = r >>= λ m. map_ok (λ ms. (m.0 ∷ ms.0, 1 + ms.1)) (members_at offset false m.1 xs)
 
 others_by : (x : Located) (xs : List Located) (m : Member) (j : ℕ) (ms : List Member) (k : ℕ)
     (r : Result (List Member × ℕ) EreFault) → IsMember (x ∷ xs) (drop j xs) m
@@ -241,13 +241,13 @@ others_by x xs m j ms k (Ok y) is all e =
     subst (λ l. IsFirstMembers (x ∷ xs) l ms) (drop-drop y.1 1 (x ∷ xs) ∙ ap (λ (i : ℕ). drop i (x ∷ xs)) (same_rest (m ∷ y.0) ms (1 + y.1) k e))
     (subst (λ l. IsFirstMembers (x ∷ xs) (drop y.1 xs) l) (same_value (m ∷ y.0) ms (1 + y.1) k e) (members is (all y.0 y.1 refl)))
 
-then_by : (place : ℕ) (x : Located) (xs : List Located) (ms : List Member) (k : ℕ) (r : Result (Member × ℕ) EreFault)
+then_by : (offset : ℕ) (x : Located) (xs : List Located) (ms : List Member) (k : ℕ) (r : Result (Member × ℕ) EreFault)
     → ((m : Member) (j : ℕ) → r ≡ Ok (m, j) → IsMember (x ∷ xs) (drop j xs) m)
-    → ((j : ℕ) (ns : List Member) (i : ℕ) → members_at place false j xs ≡ Ok (ns, i)
-    → IsMembers (drop j xs) (drop i xs) ns) → member_then place xs r ≡ Ok (ms, k)
+    → ((j : ℕ) (ns : List Member) (i : ℕ) → members_at offset false j xs ≡ Ok (ns, i)
+    → IsMembers (drop j xs) (drop i xs) ns) → member_then offset xs r ≡ Ok (ms, k)
     → IsFirstMembers (x ∷ xs) (drop k (x ∷ xs)) ms
-then_by place x xs ms k (Err d) is all e = absurd cc
-then_by place x xs ms k (Ok m) is all e = others_by x xs m.0 m.1 ms k (members_at place false m.1 xs) (is m.0 m.1 refl) (all m.1) e
+then_by offset x xs ms k (Err d) is all e = absurd cc
+then_by offset x xs ms k (Ok m) is all e = others_by x xs m.0 m.1 ms k (members_at offset false m.1 xs) (is m.0 m.1 refl) (all m.1) e
 
 pub one_spelled : (x : Located) (xs : List Located) (m : Member) (j : ℕ) → member_at x xs ≡ Ok (m, j) → IsMember (x ∷ xs) (drop j xs) m
 unfolding member_of
@@ -256,34 +256,34 @@ one_spelled x xs m j e = member_spelled x xs (drop j xs) m (ap (map_ok (with_rem
 not_first : (x : Located) (xs rest : List Located) (ms : List Member) → x.1 ≢ close_bracket → IsFirstMembers (x ∷ xs) rest ms → IsMembers (x ∷ xs) rest ms
 not_first x xs rest ms ne (members is others) = one_further ne is others
 
-closes_by : (place : ℕ) (x : Located) (xs : List Located) (ms : List Member) (k : ℕ) (t : Bool) → (x.1 == close_bracket) ≡ t
-    → ((j : ℕ) (ns : List Member) (i : ℕ) → members_at place false j xs ≡ Ok (ns, i) → IsMembers (drop j xs) (drop i xs) ns)
-    → cond t (Ok ([], 1)) (member_then place xs (member_at x xs)) ≡ Ok (ms, k) → IsMembers (x ∷ xs) (drop k (x ∷ xs)) ms
-closes_by place x xs ms k true e all is =
+closes_by : (offset : ℕ) (x : Located) (xs : List Located) (ms : List Member) (k : ℕ) (t : Bool) → (x.1 == close_bracket) ≡ t
+    → ((j : ℕ) (ns : List Member) (i : ℕ) → members_at offset false j xs ≡ Ok (ns, i) → IsMembers (drop j xs) (drop i xs) ns)
+    → cond t (Ok ([], 1)) (member_then offset xs (member_at x xs)) ≡ Ok (ms, k) → IsMembers (x ∷ xs) (drop k (x ∷ xs)) ms
+closes_by offset x xs ms k true e all is =
     subst (λ l. IsMembers (x ∷ xs) l ms) (ap (λ (i : ℕ). drop i (x ∷ xs)) (same_rest [] ms 1 k is))
     (subst (λ l. IsMembers (x ∷ xs) xs l) (same_value [] ms 1 k is) (closed (eqb-true _ _ e)))
-closes_by place x xs ms k false e all is =
+closes_by offset x xs ms k false e all is =
     not_first x xs (drop k (x ∷ xs)) ms (is_not_this x.1 close_bracket e)
-    (then_by place x xs ms k (member_at x xs) (one_spelled x xs) all is)
+    (then_by offset x xs ms k (member_at x xs) (one_spelled x xs) all is)
 
-members_spelled : (place : ℕ) (xs : List Located) → Spelled place xs
+members_spelled : (offset : ℕ) (xs : List Located) → Spelled offset xs
 unfolding Spelled members_at
-members_spelled place [] n ms k e = absurd cc
-members_spelled place (x ∷ xs) (suc n) ms k e = skip_by x xs (drop n xs) ms k (members_at place false n xs) (members_spelled place xs n) e
-members_spelled place (x ∷ xs) zero ms k e = closes_by place x xs ms k (x.1 == close_bracket) refl (members_spelled place xs) e
+members_spelled offset [] n ms k e = absurd cc
+members_spelled offset (x ∷ xs) (suc n) ms k e = skip_by x xs (drop n xs) ms k (members_at offset false n xs) (members_spelled offset xs n) e
+members_spelled offset (x ∷ xs) zero ms k e = closes_by offset x xs ms k (x.1 == close_bracket) refl (members_spelled offset xs) e
 
-first_spelled : (place : ℕ) (cs : List Located) (ms : List Member) (k : ℕ) → members_at place true 0 cs ≡ Ok (ms, k) → IsFirstMembers cs (drop k cs) ms
+first_spelled : (offset : ℕ) (cs : List Located) (ms : List Member) (k : ℕ) → members_at offset true 0 cs ≡ Ok (ms, k) → IsFirstMembers cs (drop k cs) ms
 unfolding members_at Spelled
-first_spelled place [] ms k e = absurd cc
-first_spelled place (x ∷ xs) ms k e = then_by place x xs ms k (member_at x xs) (one_spelled x xs) (members_spelled place xs) e
+first_spelled offset [] ms k e = absurd cc
+first_spelled offset (x ∷ xs) ms k e = then_by offset x xs ms k (member_at x xs) (one_spelled x xs) (members_spelled offset xs) e
 
-first_of_spelled : (place : ℕ) (cs rest : List Located) (ms : List Member) → members_of place true cs ≡ Ok (ms, rest) → IsFirstMembers cs rest ms
-first_of_spelled place cs rest ms e = by_result (members_at place true 0 cs) refl e
+first_of_spelled : (offset : ℕ) (cs rest : List Located) (ms : List Member) → members_of offset true cs ≡ Ok (ms, rest) → IsFirstMembers cs rest ms
+first_of_spelled offset cs rest ms e = by_result (members_at offset true 0 cs) refl e
   where
-    by_result : (r : Result (List Member × ℕ) EreFault) → members_at place true 0 cs ≡ r → map_ok (with_remaining cs) r ≡ Ok (ms, rest) → IsFirstMembers cs rest ms
+    by_result : (r : Result (List Member × ℕ) EreFault) → members_at offset true 0 cs ≡ r → map_ok (with_remaining cs) r ≡ Ok (ms, rest) → IsFirstMembers cs rest ms
     by_result (Ok y) was e = subst (λ l. IsFirstMembers cs l ms) (same_rest y.0 ms (drop y.1 cs) rest e)
         (subst (λ l. IsFirstMembers cs (drop y.1 cs) l) (same_value y.0 ms (drop y.1 cs) rest e)
-        (first_spelled place cs y.0 y.1 was))
+        (first_spelled offset cs y.0 y.1 was))
     by_result (Err d) was e = absurd cc
 
 sign_was : (sign : Bool) (r : Result (List Member × List Located) EreFault) (b : Brackets) (rest : List Located)
@@ -294,20 +294,20 @@ sign_was sign (Ok y) b rest e =
     (y.0, ap (λ (l : List Located). Ok (y.0, l)) (same_rest made b y.1 rest e), same_value made b y.1 rest e)
 sign_was sign (Err d) b rest e = absurd cc
 
-caret_by : (place : ℕ) (x : Located) (cs rest : List Located) (b : Brackets) (t : Bool) → (x.1 == caret) ≡ t
-    → bracket_of place (x ∷ cs) ≡ Ok (b, rest) → IsBracket (x ∷ cs) rest b
-caret_by place x cs rest b true e is =
-    let was = sign_was true (members_of place true cs) b rest (sym (complement_is place x cs e) ∙ is) in
-    subst (λ c. IsBracket (x ∷ cs) rest c) was.2 (complement (eqb-true _ _ e) (first_of_spelled place cs rest was.0 was.1))
-caret_by place x cs rest b false e is =
-    let was = sign_was false (members_of place true (x ∷ cs)) b rest (sym (plain_is place x cs e) ∙ is) in
-    subst (λ c. IsBracket (x ∷ cs) rest c) was.2 (plain (is_not_this x.1 caret e) (first_of_spelled place (x ∷ cs) rest was.0 was.1))
+caret_by : (offset : ℕ) (x : Located) (cs rest : List Located) (b : Brackets) (t : Bool) → (x.1 == caret) ≡ t
+    → bracket_of offset (x ∷ cs) ≡ Ok (b, rest) → IsBracket (x ∷ cs) rest b
+caret_by offset x cs rest b true e is =
+    let was = sign_was true (members_of offset true cs) b rest (sym (complement_is offset x cs e) ∙ is) in
+    subst (λ c. IsBracket (x ∷ cs) rest c) was.2 (complement (eqb-true _ _ e) (first_of_spelled offset cs rest was.0 was.1))
+caret_by offset x cs rest b false e is =
+    let was = sign_was false (members_of offset true (x ∷ cs)) b rest (sym (plain_is offset x cs e) ∙ is) in
+    subst (λ c. IsBracket (x ∷ cs) rest c) was.2 (plain (is_not_this x.1 caret e) (first_of_spelled offset (x ∷ cs) rest was.0 was.1))
 
 -- the bracket that is read is spelled
-pub bracket_at-spelled : (place : ℕ) (cs rest : List Located) (b : Brackets) → bracket_of place cs ≡ Ok (b, rest) → IsBracket cs rest b
+pub bracket_at-spelled : (offset : ℕ) (cs rest : List Located) (b : Brackets) → bracket_of offset cs ≡ Ok (b, rest) → IsBracket cs rest b
 unfolding bracket_at members_at
-bracket_at-spelled place [] rest b is = absurd cc
-bracket_at-spelled place (x ∷ cs) rest b is = caret_by place x cs rest b (x.1 == caret) refl is
+bracket_at-spelled offset [] rest b is = absurd cc
+bracket_at-spelled offset (x ∷ cs) rest b is = caret_by offset x cs rest b (x.1 == caret) refl is
 
 -- ---- no set is named
 
@@ -329,12 +329,12 @@ bracket_names_none x y cs rest b e others (complement f is) = absurd (omega (ari
 
 -- ---- what the reader of the code gives
 
-pub is_spelled : (place : ℕ) (cs : List Located) (result : Result (Brackets × Remaining) EreFault)
-    → Gives seen result (bracket_of place cs) → IfOk result (λ x. IsBracket cs (left x.1) x.0)
-is_spelled place cs (Ok x) given = bracket_at-spelled place cs (left x.1) x.0 given
-is_spelled place cs (Err e) given = tt
+pub is_spelled : (offset : ℕ) (cs : List Located) (result : Result (Brackets × Remaining) EreFault)
+    → Gives seen result (bracket_of offset cs) → IfOk result (λ x. IsBracket cs (left x.1) x.0)
+is_spelled offset cs (Ok x) given = bracket_at-spelled offset cs (left x.1) x.0 given
+is_spelled offset cs (Err e) given = tt
 
-pub is_read : (place : ℕ) (cs : List Located) (result : Result (Brackets × Remaining) EreFault) (b : Brackets)
-    (rest : List Located) → IsBracket cs rest b → Gives seen result (bracket_of place cs)
+pub is_read : (offset : ℕ) (cs : List Located) (result : Result (Brackets × Remaining) EreFault) (b : Brackets)
+    (rest : List Located) → IsBracket cs rest b → Gives seen result (bracket_of offset cs)
     → Gives seen result (Ok (b, rest))
-is_read place cs result b rest is given = Gives-same seen result (bracket_of place cs) (Ok (b, rest)) (IsBracket-read place is) given
+is_read offset cs result b rest is given = Gives-same seen result (bracket_of offset cs) (Ok (b, rest)) (IsBracket-read offset is) given

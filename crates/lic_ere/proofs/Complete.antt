@@ -10,7 +10,7 @@ use Rattle.lic_ere.specs.Faults.{◌>>=◌}
 use Rattle.lic_ere.specs.Lexemes.{Lexeme, unit, sign, opening, closing, bar, anchor, Lexemes}
 use Rattle.lic_ere.specs.Reading as reading
 use Rattle.lic_ere.specs.Reading.{LastUnit, Level, new_level, units, with_unit, with_alternative, level_tree, State, max_depth, meet, finish, read_on, start, reading}
-use Rattle.lic_ere.specs.Grammar.{IsUnit, plain, group, closes_nothing, IsRow, no_unit, once, repeated, IsChoice, only, or, without_anchors, IsPattern}
+use Rattle.lic_ere.specs.Grammar.{IsUnit, plain, group, closes_nothing, IsSequence, no_unit, once, repeated, IsChoice, only, or, without_anchors, IsPattern}
 use Rattle.lic_ere.proofs.LexemeSpelling.{are_read}
 
 -- lexemes read from a level on
@@ -23,8 +23,8 @@ after_meet : (r : Result State EreFault) (ls ms : List (ℕ × Lexeme))
 after_meet (Ok s) ls ms same = same s
 after_meet (Err e) ls ms same = refl
 
--- the units of a row were read
-pub record RanRow (level : Level) (outer : List Level) (ls rest : List (ℕ × Lexeme)) (ts : List Tree) : Type 0 where
+-- the units of a sequence were read
+pub record RanSequence (level : Level) (outer : List Level) (ls rest : List (ℕ × Lexeme)) (ts : List Tree) : Type 0 where
   pub then : Level
   pub runs : run level outer ls ≡ run then outer rest
   pub alternatives : then.alternatives ≡ level.alternatives
@@ -39,48 +39,48 @@ pub record RanChoice (level : Level) (outer : List Level) (ls rest : List (ℕ �
 abbrev UnitRuns : ℕ → List (ℕ × Lexeme) → List (ℕ × Lexeme) → Tree → Type 0
 UnitRuns depth ls rest t = (level : Level) (outer : List Level) → length outer ≡ depth → run level outer ls ≡ run (with_unit t level) outer rest
 
-plain_runs : (depth place : ℕ) (t : Tree) (rest : List (ℕ × Lexeme)) → UnitRuns depth ((place, unit t) ∷ rest) rest t
+plain_runs : (depth offset : ℕ) (t : Tree) (rest : List (ℕ × Lexeme)) → UnitRuns depth ((offset, unit t) ∷ rest) rest t
 unfolding read_on meet
-plain_runs depth place t rest level outer e = refl
+plain_runs depth offset t rest level outer e = refl
 
-closing_runs : (place : ℕ) (rest : List (ℕ × Lexeme)) → UnitRuns 0 ((place, closing) ∷ rest) rest (letters_tree close_paren)
+closing_runs : (offset : ℕ) (rest : List (ℕ × Lexeme)) → UnitRuns 0 ((offset, closing) ∷ rest) rest (letters_tree close_paren)
 unfolding read_on meet
-closing_runs place rest level [] e = refl
-closing_runs place rest level (o ∷ outer) e = absurd (omega arith)
+closing_runs offset rest level [] e = refl
+closing_runs offset rest level (o ∷ outer) e = absurd (omega arith)
 
-opening_runs : (place : ℕ) (ls : List (ℕ × Lexeme)) (level : Level) (outer : List Level) → length outer < 64
-    → run level outer ((place, opening) ∷ ls) ≡ run (new_level place) (level ∷ outer) ls
+opening_runs : (offset : ℕ) (ls : List (ℕ × Lexeme)) (level : Level) (outer : List Level) → length outer < 64
+    → run level outer ((offset, opening) ∷ ls) ≡ run (new_level offset) (level ∷ outer) ls
 unfolding read_on meet
-opening_runs place ls level outer lt = let e : ltb (length outer) 64 ≡ true = grind (arith, nat_tests) in rw e refl
+opening_runs offset ls level outer lt = let e : ltb (length outer) 64 ≡ true = grind (arith, nat_tests) in rw e refl
 
-closed_runs : (place : ℕ) (rest : List (ℕ × Lexeme)) (level o : Level) (outer : List Level)
-    → run level (o ∷ outer) ((place, closing) ∷ rest) ≡ run (with_unit (level_tree level) o) outer rest
+closed_runs : (offset : ℕ) (rest : List (ℕ × Lexeme)) (level o : Level) (outer : List Level)
+    → run level (o ∷ outer) ((offset, closing) ∷ rest) ≡ run (with_unit (level_tree level) o) outer rest
 unfolding read_on meet
-closed_runs place rest level o outer = refl
+closed_runs offset rest level o outer = refl
 
-bar_runs : (place : ℕ) (rest : List (ℕ × Lexeme)) (level : Level) (outer : List Level)
-    → run level outer ((place, bar) ∷ rest) ≡ run (with_alternative level) outer rest
+bar_runs : (offset : ℕ) (rest : List (ℕ × Lexeme)) (level : Level) (outer : List Level)
+    → run level outer ((offset, bar) ∷ rest) ≡ run (with_alternative level) outer rest
 unfolding read_on meet
-bar_runs place rest level outer = refl
+bar_runs offset rest level outer = refl
 
-sign_runs : (place : ℕ) (b : Bounds) (t : Tree) (rest : List (ℕ × Lexeme)) (level : Level) (outer : List Level)
-    → run (with_unit t level) outer ((place, sign (Some b)) ∷ rest)
+sign_runs : (offset : ℕ) (b : Bounds) (t : Tree) (rest : List (ℕ × Lexeme)) (level : Level) (outer : List Level)
+    → run (with_unit t level) outer ((offset, sign (Some b)) ∷ rest)
     ≡ run (record (with_unit t level) { last = reading.repeated (repeat t b.min b.max) }) outer rest
 unfolding read_on meet
-sign_runs place b t rest level outer = refl
+sign_runs offset b t rest level outer = refl
 
-group_runs : (depth place end : ℕ) (ls rest : List (ℕ × Lexeme)) (ts : List Tree) → depth < max_depth
+group_runs : (depth offset end : ℕ) (ls rest : List (ℕ × Lexeme)) (ts : List Tree) → depth < max_depth
     → ((level : Level) (outer : List Level) → length outer ≡ suc depth → units level ≡ [] → RanChoice level outer ls ((end, closing) ∷ rest) ts)
-    → UnitRuns depth ((place, opening) ∷ ls) rest (choice_tree ts)
-group_runs depth place end ls rest ts lt inner level outer e =
-    let ran = inner (new_level place) (level ∷ outer) (omega arith) refl in
-    opening_runs place ls level outer (omega arith)
+    → UnitRuns depth ((offset, opening) ∷ ls) rest (choice_tree ts)
+group_runs depth offset end ls rest ts lt inner level outer e =
+    let ran = inner (new_level offset) (level ∷ outer) (omega arith) refl in
+    opening_runs offset ls level outer (omega arith)
     ∙ ran.runs
     ∙ closed_runs end rest ran.then level outer
     ∙ ap (λ t. run (with_unit t level) outer rest) ran.tree
 
 only_runs : (level : Level) (outer : List Level) (ls rest : List (ℕ × Lexeme)) (ts : List Tree) → units level ≡ []
-    → RanRow level outer ls rest ts → RanChoice level outer ls rest (units_tree ts ∷ [])
+    → RanSequence level outer ls rest ts → RanChoice level outer ls rest (units_tree ts ∷ [])
 only_runs level outer ls rest ts fresh ran =
     record {
       then = ran.then;
@@ -88,30 +88,30 @@ only_runs level outer ls rest ts fresh ran =
       tree = λ i. choice_tree (ran.alternatives i ++ units_tree ((ran.units ∙ ap (λ us. us ++ ts) fresh) i) ∷ []);
     }
 
-or_runs : (level : Level) (outer : List Level) (ls more rest : List (ℕ × Lexeme)) (place : ℕ) (ts us : List Tree)
-    → units level ≡ [] → (row : RanRow level outer ls ((place, bar) ∷ more) ts)
-    → RanChoice (with_alternative row.then) outer more rest us → RanChoice level outer ls rest (units_tree ts ∷ us)
-or_runs level outer ls more rest place ts us fresh row others =
+or_runs : (level : Level) (outer : List Level) (ls more rest : List (ℕ × Lexeme)) (offset : ℕ) (ts us : List Tree)
+    → units level ≡ [] → (sequence : RanSequence level outer ls ((offset, bar) ∷ more) ts)
+    → RanChoice (with_alternative sequence.then) outer more rest us → RanChoice level outer ls rest (units_tree ts ∷ us)
+or_runs level outer ls more rest offset ts us fresh sequence others =
     record {
       then = others.then;
-      runs = row.runs ∙ bar_runs place more row.then outer ∙ others.runs;
+      runs = sequence.runs ∙ bar_runs offset more sequence.then outer ∙ others.runs;
       tree = others.tree
-          ∙ (λ i. choice_tree ((row.alternatives i ++ units_tree ((row.units ∙ ap (λ us. us ++ ts) fresh) i) ∷ []) ++ us))
+          ∙ (λ i. choice_tree ((sequence.alternatives i ++ units_tree ((sequence.units ∙ ap (λ us. us ++ ts) fresh) i) ∷ []) ++ us))
           ∙ ap choice_tree (append_assoc level.alternatives (units_tree ts ∷ []) us);
     }
 
 mutual
   unit_runs : {depth : ℕ} {ls rest : List (ℕ × Lexeme)} {t : Tree} → IsUnit depth ls rest t → UnitRuns depth ls rest t
-  unit_runs (plain {depth = d} {place = p} {t = t} {rest = r}) level outer e = plain_runs d p t r level outer e
-  unit_runs (group {depth = d} {place = p} {end = q} {ls = ls} {rest = rest} {ts = ts} lt inner) level outer e =
+  unit_runs (plain {depth = d} {offset = p} {t = t} {rest = r}) level outer e = plain_runs d p t r level outer e
+  unit_runs (group {depth = d} {offset = p} {end = q} {ls = ls} {rest = rest} {ts = ts} lt inner) level outer e =
       group_runs d p q ls rest ts lt (choice_runs inner) level outer e
-  unit_runs (closes_nothing {place = p} {rest = r}) level outer e = closing_runs p r level outer e
+  unit_runs (closes_nothing {offset = p} {rest = r}) level outer e = closing_runs p r level outer e
 
-  row_runs : {depth : ℕ} {ls rest : List (ℕ × Lexeme)} {ts : List Tree} → IsRow depth ls rest ts
-      → (level : Level) (outer : List Level) → length outer ≡ depth → RanRow level outer ls rest ts
-  row_runs no_unit level outer e = record { then = level; runs = refl; alternatives = refl; units = sym (append-nil (units level)) }
-  row_runs (once {t = t} {ts = ts} first others) level outer e =
-      let ran = row_runs others (with_unit t level) outer e in
+  sequence_runs : {depth : ℕ} {ls rest : List (ℕ × Lexeme)} {ts : List Tree} → IsSequence depth ls rest ts
+      → (level : Level) (outer : List Level) → length outer ≡ depth → RanSequence level outer ls rest ts
+  sequence_runs no_unit level outer e = record { then = level; runs = refl; alternatives = refl; units = sym (append-nil (units level)) }
+  sequence_runs (once {t = t} {ts = ts} first others) level outer e =
+      let ran = sequence_runs others (with_unit t level) outer e in
       record {
         then = ran.then;
         runs = unit_runs first level outer e ∙ ran.runs;
@@ -119,8 +119,8 @@ mutual
             ran.alternatives;
         units = ran.units ∙ append_assoc (units level) (t ∷ []) ts;
       }
-  row_runs (repeated {place = p} {more = more} {t = t} {b = b} {ts = ts} first others) level outer e =
-      let ran = row_runs others (record (with_unit t level) { last = reading.repeated (repeat t b.min b.max) }) outer e in
+  sequence_runs (repeated {offset = p} {more = more} {t = t} {b = b} {ts = ts} first others) level outer e =
+      let ran = sequence_runs others (record (with_unit t level) { last = reading.repeated (repeat t b.min b.max) }) outer e in
       record {
         then = ran.then;
         runs =
@@ -133,9 +133,9 @@ mutual
   choice_runs : {depth : ℕ} {ls rest : List (ℕ × Lexeme)} {ts : List Tree} → IsChoice depth ls rest ts
       → (level : Level) (outer : List Level) → length outer ≡ depth → units level ≡ []
       → RanChoice level outer ls rest ts
-  choice_runs (only {ls = ls} {rest = rest} {ts = ts} row) level outer e fresh = only_runs level outer ls rest ts fresh (row_runs row level outer e)
-  choice_runs (or {place = p} {ls = ls} {more = more} {rest = rest} {ts = ts} {us = us} row others) level outer e fresh =
-      let ran = row_runs row level outer e in
+  choice_runs (only {ls = ls} {rest = rest} {ts = ts} sequence) level outer e fresh = only_runs level outer ls rest ts fresh (sequence_runs sequence level outer e)
+  choice_runs (or {offset = p} {ls = ls} {more = more} {rest = rest} {ts = ts} {us = us} sequence others) level outer e fresh =
+      let ran = sequence_runs sequence level outer e in
       or_runs level outer ls more rest p ts us fresh ran (choice_runs others (with_alternative ran.then) outer e refl)
 
 without_anchors_runs : (ls : List (ℕ × Lexeme)) (s : State) → read_on s (without_anchors ls) None ≡ read_on s ls None

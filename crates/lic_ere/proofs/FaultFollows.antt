@@ -23,29 +23,29 @@ use Rattle.lic_ere.proofs.FaultSpelled.{same_fault, not_failed, Ends, spelled}
 
 pub without_anchors-append : (ls ms : List (ℕ × Lexeme)) → without_anchors (ls ++ ms) ≡ without_anchors ls ++ without_anchors ms
 without_anchors-append [] ms = refl
-without_anchors-append ((place, unit t) ∷ ls) ms = ap (λ l. (place, unit t) ∷ l) (without_anchors-append ls ms)
-without_anchors-append ((place, sign b) ∷ ls) ms = ap (λ l. (place, sign b) ∷ l) (without_anchors-append ls ms)
-without_anchors-append ((place, opening) ∷ ls) ms = ap (λ l. (place, opening) ∷ l) (without_anchors-append ls ms)
-without_anchors-append ((place, closing) ∷ ls) ms = ap (λ l. (place, closing) ∷ l) (without_anchors-append ls ms)
-without_anchors-append ((place, bar) ∷ ls) ms = ap (λ l. (place, bar) ∷ l) (without_anchors-append ls ms)
-without_anchors-append ((place, anchor) ∷ ls) ms = without_anchors-append ls ms
+without_anchors-append ((offset, unit t) ∷ ls) ms = ap (λ l. (offset, unit t) ∷ l) (without_anchors-append ls ms)
+without_anchors-append ((offset, sign b) ∷ ls) ms = ap (λ l. (offset, sign b) ∷ l) (without_anchors-append ls ms)
+without_anchors-append ((offset, opening) ∷ ls) ms = ap (λ l. (offset, opening) ∷ l) (without_anchors-append ls ms)
+without_anchors-append ((offset, closing) ∷ ls) ms = ap (λ l. (offset, closing) ∷ l) (without_anchors-append ls ms)
+without_anchors-append ((offset, bar) ∷ ls) ms = ap (λ l. (offset, bar) ∷ l) (without_anchors-append ls ms)
+without_anchors-append ((offset, anchor) ∷ ls) ms = without_anchors-append ls ms
 
 pub whole-append : {ls : List (ℕ × Lexeme)} (more : List (ℕ × Lexeme)) → AreWhole ls → AreWhole more → AreWhole (ls ++ more)
 whole-append more faults.no_lexeme h = h
 whole-append more (faults.a_unit w) h = faults.a_unit (whole-append more w h)
 whole-append more (faults.a_sign w) h = faults.a_sign (whole-append more w h)
 whole-append more (faults.a_bar w) h = faults.a_bar (whole-append more w h)
-whole-append more (faults.a_group {inner = inner} {ls = ls} {place = place} end a w) h =
-    subst (λ l. AreWhole ((place, opening) ∷ l)) (sym (append_assoc inner ((end, closing) ∷ ls) more))
+whole-append more (faults.a_group {inner = inner} {ls = ls} {offset = offset} end a w) h =
+    subst (λ l. AreWhole ((offset, opening) ∷ l)) (sym (append_assoc inner ((end, closing) ∷ ls) more))
     (faults.a_group end a (whole-append more w h))
 
 pub open-append : {ls : List (ℕ × Lexeme)} {depth : ℕ} (more : List (ℕ × Lexeme)) → AreOpen ls depth → AreWhole more → AreOpen (ls ++ more) depth
 open-append more (faults.none w) h = faults.none (whole-append more w h)
-open-append more (faults.stray {before = before} {after = after} place o w) h =
-    subst (λ l. AreOpen l 0) (sym (append_assoc before ((place, closing) ∷ after) more)) (faults.stray place o (whole-append more w h))
-open-append more (faults.one_more {before = before} {after = after} {depth = depth} place o w) h =
-    subst (λ l. AreOpen l (suc depth)) (sym (append_assoc before ((place, opening) ∷ after) more))
-    (faults.one_more place o (whole-append more w h))
+open-append more (faults.stray {before = before} {after = after} offset o w) h =
+    subst (λ l. AreOpen l 0) (sym (append_assoc before ((offset, closing) ∷ after) more)) (faults.stray offset o (whole-append more w h))
+open-append more (faults.one_more {before = before} {after = after} {depth = depth} offset o w) h =
+    subst (λ l. AreOpen l (suc depth)) (sym (append_assoc before ((offset, opening) ∷ after) more))
+    (faults.one_more offset o (whole-append more w h))
 
 -- ---- what the lexemes so far say of the state
 
@@ -59,36 +59,36 @@ EndIn (reading.repeated t) ls = EndInSign ls
 abbrev Open : List (ℕ × Lexeme) → Level → List Level → Type 0
 Open ls level [] = AreOpen ls 0
 Open ls level (o ∷ outer) =
-    (before : List (ℕ × Lexeme)) × (after : List (ℕ × Lexeme)) × (ls ≡ before ++ (level.place, opening) ∷ after)
+    (before : List (ℕ × Lexeme)) × (after : List (ℕ × Lexeme)) × (ls ≡ before ++ (level.offset, opening) ∷ after)
     × AreWhole after × Open before o outer
 
 open-depth : (ls : List (ℕ × Lexeme)) (level : Level) (outer : List Level) → Open ls level outer → AreOpen ls (length outer)
 open-depth ls level [] h = h
 open-depth ls level (o ∷ outer) h =
-    subst (λ l. AreOpen l (suc (length outer))) (sym h.2) (faults.one_more level.place (open-depth h.0 o outer h.4) h.3)
+    subst (λ l. AreOpen l (suc (length outer))) (sym h.2) (faults.one_more level.offset (open-depth h.0 o outer h.4) h.3)
 
 -- lexemes that leave as many groups open
-open-on : (ls more : List (ℕ × Lexeme)) (l m : Level) (outer : List Level) → m.place ≡ l.place → AreWhole more
+open-on : (ls more : List (ℕ × Lexeme)) (l m : Level) (outer : List Level) → m.offset ≡ l.offset → AreWhole more
     → Open ls l outer → Open (ls ++ more) m outer
 open-on ls more l m [] same w h = open-append more h w
 open-on ls more l m (o ∷ outer) same w h = (
   h.0,
   h.1 ++ more,
-  ap (λ ks. ks ++ more) h.2 ∙ append_assoc h.0 ((l.place, opening) ∷ h.1) more
+  ap (λ ks. ks ++ more) h.2 ∙ append_assoc h.0 ((l.offset, opening) ∷ h.1) more
       ∙ ap (λ (p : ℕ). h.0 ++ (p, opening) ∷ (h.1 ++ more)) (sym same),
   whole-append more h.3 w,
   h.4,
 )
 
 -- the end of the innermost group
-open-end : (ls : List (ℕ × Lexeme)) (place : ℕ) (level o m : Level) (outer : List Level) → m.place ≡ o.place
-    → Open ls level (o ∷ outer) → Open (ls ++ (place, closing) ∷ []) m outer
-open-end ls place level o m outer same h =
-    let more : List (ℕ × Lexeme) = (level.place, opening) ∷ (h.1 ++ (place, closing) ∷ []) in
-    let whole : AreWhole more = faults.a_group place h.3 faults.no_lexeme in
+open-end : (ls : List (ℕ × Lexeme)) (offset : ℕ) (level o m : Level) (outer : List Level) → m.offset ≡ o.offset
+    → Open ls level (o ∷ outer) → Open (ls ++ (offset, closing) ∷ []) m outer
+open-end ls offset level o m outer same h =
+    let more : List (ℕ × Lexeme) = (level.offset, opening) ∷ (h.1 ++ (offset, closing) ∷ []) in
+    let whole : AreWhole more = faults.a_group offset h.3 faults.no_lexeme in
     subst (λ ks. Open ks m outer)
-    (sym (append_assoc h.0 ((level.place, opening) ∷ h.1) ((place, closing) ∷ []))
-    ∙ ap (λ ks. ks ++ (place, closing) ∷ []) (sym h.2))
+    (sym (append_assoc h.0 ((level.offset, opening) ∷ h.1) ((offset, closing) ∷ []))
+    ∙ ap (λ ks. ks ++ (offset, closing) ∷ []) (sym h.2))
     (open-on h.0 more o m outer same whole h.4)
 
 record SoFar (ls : List (ℕ × Lexeme)) (s : State) : Type 0 where
@@ -98,12 +98,12 @@ record SoFar (ls : List (ℕ × Lexeme)) (s : State) : Type 0 where
 
 -- the fault of these lexemes, after some others
 data Fault (before ls : List (ℕ × Lexeme)) (fault : Option EreFault) (e : EreFault) : Type 0 where
-  early : (prefix after : List (ℕ × Lexeme)) {place : ℕ} {l : Lexeme} {cause : EreCause} → before ++ ls ≡ prefix ++ (place, l) ∷ after
-      → AllMayFollow (without_anchors prefix) → MayNotFollow (without_anchors prefix) l cause → fault_at place cause ≡ e
+  early : (prefix after : List (ℕ × Lexeme)) {offset : ℕ} {l : Lexeme} {cause : EreCause} → before ++ ls ≡ prefix ++ (offset, l) ∷ after
+      → AllMayFollow (without_anchors prefix) → MayNotFollow (without_anchors prefix) l cause → fault_at offset cause ≡ e
       → Fault before ls fault e
-  left_open : (prefix after : List (ℕ × Lexeme)) {place : ℕ} → fault ≡ None
-      → without_anchors (before ++ ls) ≡ prefix ++ (place, opening) ∷ after → AllMayFollow (without_anchors (before ++ ls))
-      → AreWhole after → fault_at place GroupNotClosed ≡ e → Fault before ls fault e
+  left_open : (prefix after : List (ℕ × Lexeme)) {offset : ℕ} → fault ≡ None
+      → without_anchors (before ++ ls) ≡ prefix ++ (offset, opening) ∷ after → AllMayFollow (without_anchors (before ++ ls))
+      → AreWhole after → fault_at offset GroupNotClosed ≡ e → Fault before ls fault e
   late : fault ≡ Some e → AllMayFollow (without_anchors (before ++ ls)) → Fault before ls fault e
 
 -- one more lexeme before
@@ -116,10 +116,10 @@ fault_back before ls x fault e (left_open prefix after none is stand whole same)
 fault_back before ls x fault e (late some stand) = late some (subst (λ l. AllMayFollow (without_anchors l)) (append_assoc before (x ∷ []) ls) stand)
 
 -- a lexeme that is refused
-refused : (before ls : List (ℕ × Lexeme)) (place : ℕ) (l : Lexeme) (cause : EreCause) (fault : Option EreFault)
+refused : (before ls : List (ℕ × Lexeme)) (offset : ℕ) (l : Lexeme) (cause : EreCause) (fault : Option EreFault)
     (e : EreFault) → AllMayFollow (without_anchors before) → MayNotFollow (without_anchors before) l cause
-    → ◌≡◌ {A = Result Tree EreFault} (Err (fault_at place cause)) (Err e) → Fault before ((place, l) ∷ ls) fault e
-refused before ls place l cause fault e stand not is = early before ls refl stand not (same_fault (fault_at place cause) e is)
+    → ◌≡◌ {A = Result Tree EreFault} (Err (fault_at offset cause)) (Err e) → Fault before ((offset, l) ∷ ls) fault e
+refused before ls offset l cause fault e stand not is = early before ls refl stand not (same_fault (fault_at offset cause) e is)
 
 module _ (fault : Option EreFault) (e : EreFault) where
   abbrev Faulty : List (ℕ × Lexeme) → Type 0
@@ -138,99 +138,99 @@ module _ (fault : Option EreFault) (e : EreFault) where
   end_by before s (o ∷ os) stand groups none is =
       left_open groups.0 groups.1 none (ap without_anchors (append-nil before) ∙ groups.2)
       (subst (λ l. AllMayFollow (without_anchors l)) (sym (append-nil before)) stand) groups.3
-      (same_fault (fault_at s.level.place GroupNotClosed) e is)
+      (same_fault (fault_at s.level.offset GroupNotClosed) e is)
 
-  unit_by : (before ls : List (ℕ × Lexeme)) (place : ℕ) (t : Tree) (s : State) → Faulty ls → SoFar (without_anchors before) s
-      → read_on (record s { level = with_unit t s.level }) ls fault ≡ Err e → Fault before ((place, unit t) ∷ ls) fault e
-  unit_by before ls place t s others so_far is =
-      taken before ls (place, unit t) (record s { level = with_unit t s.level }) others
-      (without_anchors-append before ((place, unit t) ∷ []))
+  unit_by : (before ls : List (ℕ × Lexeme)) (offset : ℕ) (t : Tree) (s : State) → Faulty ls → SoFar (without_anchors before) s
+      → read_on (record s { level = with_unit t s.level }) ls fault ≡ Err e → Fault before ((offset, unit t) ∷ ls) fault e
+  unit_by before ls offset t s others so_far is =
+      taken before ls (offset, unit t) (record s { level = with_unit t s.level }) others
+      (without_anchors-append before ((offset, unit t) ∷ []))
       (record {
-        stand = faults.one_more place so_far.stand faults.a_unit;
-        last = faults.plain (without_anchors before) place t;
-        groups = open-on (without_anchors before) ((place, unit t) ∷ []) s.level (with_unit t s.level) s.outer refl (faults.a_unit faults.no_lexeme) so_far.groups;
+        stand = faults.one_more offset so_far.stand faults.a_unit;
+        last = faults.plain (without_anchors before) offset t;
+        groups = open-on (without_anchors before) ((offset, unit t) ∷ []) s.level (with_unit t s.level) s.outer refl (faults.a_unit faults.no_lexeme) so_far.groups;
       }) is
 
-  sign_by : (before ls : List (ℕ × Lexeme)) (place : ℕ) (b : Option Bounds) (from : ℕ) (alternatives units : List Tree)
+  sign_by : (before ls : List (ℕ × Lexeme)) (offset : ℕ) (b : Option Bounds) (from : ℕ) (alternatives units : List Tree)
       (last : LastUnit) (outer : List Level) → Faulty ls
-      → SoFar (without_anchors before) (record { level = record { place = from; alternatives = alternatives; before = units; last = last }; outer = outer })
-      → read_on (record { level = record { place = from; alternatives = alternatives; before = units; last = last }; outer = outer })
-      ((place, sign b) ∷ ls) fault ≡ Err e → Fault before ((place, sign b) ∷ ls) fault e
+      → SoFar (without_anchors before) (record { level = record { offset = from; alternatives = alternatives; before = units; last = last }; outer = outer })
+      → read_on (record { level = record { offset = from; alternatives = alternatives; before = units; last = last }; outer = outer })
+      ((offset, sign b) ∷ ls) fault ≡ Err e → Fault before ((offset, sign b) ∷ ls) fault e
   unfolding read_on meet
-  sign_by before ls place b from alternatives units reading.no_unit outer others so_far is =
-      refused before ls place (sign b) NothingToRepeat fault e so_far.stand (faults.nothing_to_repeat so_far.last) is
-  sign_by before ls place b from alternatives units (reading.repeated t) outer others so_far is =
-      refused before ls place (sign b) TwoSigns fault e so_far.stand (faults.two_signs so_far.last) is
-  sign_by before ls place None from alternatives units (reading.single t) outer others so_far is =
-      refused before ls place (sign None) BadBound fault e so_far.stand (faults.bad_bound so_far.last) is
-  sign_by before ls place (Some b) from alternatives units (reading.single t) outer others so_far is =
-      let old : Level = record { place = from; alternatives = alternatives; before = units; last = reading.single t } in
-      let now : Level = record { place = from; alternatives = alternatives; before = units; last = reading.repeated (repeat t b.min b.max) } in
-      taken before ls (place, sign (Some b)) (record { level = now; outer = outer }) others
-      (without_anchors-append before ((place, sign (Some b)) ∷ []))
+  sign_by before ls offset b from alternatives units reading.no_unit outer others so_far is =
+      refused before ls offset (sign b) NothingToRepeat fault e so_far.stand (faults.nothing_to_repeat so_far.last) is
+  sign_by before ls offset b from alternatives units (reading.repeated t) outer others so_far is =
+      refused before ls offset (sign b) TwoSigns fault e so_far.stand (faults.two_signs so_far.last) is
+  sign_by before ls offset None from alternatives units (reading.single t) outer others so_far is =
+      refused before ls offset (sign None) BadBound fault e so_far.stand (faults.bad_bound so_far.last) is
+  sign_by before ls offset (Some b) from alternatives units (reading.single t) outer others so_far is =
+      let old : Level = record { offset = from; alternatives = alternatives; before = units; last = reading.single t } in
+      let now : Level = record { offset = from; alternatives = alternatives; before = units; last = reading.repeated (repeat t b.min b.max) } in
+      taken before ls (offset, sign (Some b)) (record { level = now; outer = outer }) others
+      (without_anchors-append before ((offset, sign (Some b)) ∷ []))
       (record {
-        stand = faults.one_more place so_far.stand (faults.a_sign so_far.last);
-        last = faults.repeated (without_anchors before) place b;
-        groups = open-on (without_anchors before) ((place, sign (Some b)) ∷ []) old now outer refl (faults.a_sign faults.no_lexeme) so_far.groups;
+        stand = faults.one_more offset so_far.stand (faults.a_sign so_far.last);
+        last = faults.repeated (without_anchors before) offset b;
+        groups = open-on (without_anchors before) ((offset, sign (Some b)) ∷ []) old now outer refl (faults.a_sign faults.no_lexeme) so_far.groups;
       }) is
 
-  opening_by : (before ls : List (ℕ × Lexeme)) (place : ℕ) (s : State) (t : Bool) → Faulty ls → SoFar (without_anchors before) s
+  opening_by : (before ls : List (ℕ × Lexeme)) (offset : ℕ) (s : State) (t : Bool) → Faulty ls → SoFar (without_anchors before) s
       → nat_lt (length s.outer) max_depth ≡ t
-      → (cond t (Ok (record { level = new_level place; outer = s.level ∷ s.outer })) (Err (fault_at place TooDeep))
-      >>= λ u. read_on u ls fault) ≡ Err e → Fault before ((place, opening) ∷ ls) fault e
-  opening_by before ls place s false others so_far lt is =
+      → (cond t (Ok (record { level = new_level offset; outer = s.level ∷ s.outer })) (Err (fault_at offset TooDeep))
+      >>= λ u. read_on u ls fault) ≡ Err e → Fault before ((offset, opening) ∷ ls) fault e
+  opening_by before ls offset s false others so_far lt is =
       let deep : max_depth ≤ length s.outer = grind (arith, nat_tests) in
-      refused before ls place opening TooDeep fault e so_far.stand
+      refused before ls offset opening TooDeep fault e so_far.stand
       (faults.too_deep (open-depth (without_anchors before) s.level s.outer so_far.groups) deep) is
-  opening_by before ls place s true others so_far lt is =
+  opening_by before ls offset s true others so_far lt is =
       let small : length s.outer < max_depth = grind (arith, nat_tests) in
-      taken before ls (place, opening) (record { level = new_level place; outer = s.level ∷ s.outer }) others
-      (without_anchors-append before ((place, opening) ∷ []))
+      taken before ls (offset, opening) (record { level = new_level offset; outer = s.level ∷ s.outer }) others
+      (without_anchors-append before ((offset, opening) ∷ []))
       (record {
-        stand = faults.one_more place so_far.stand (faults.a_group (open-depth (without_anchors before) s.level s.outer so_far.groups) small);
-        last = faults.opened (without_anchors before) place;
+        stand = faults.one_more offset so_far.stand (faults.a_group (open-depth (without_anchors before) s.level s.outer so_far.groups) small);
+        last = faults.opened (without_anchors before) offset;
         groups = (without_anchors before, [], refl, faults.no_lexeme, so_far.groups);
       }) is
 
-  closing_by : (before ls : List (ℕ × Lexeme)) (place : ℕ) (level : Level) (outer : List Level) → Faulty ls
+  closing_by : (before ls : List (ℕ × Lexeme)) (offset : ℕ) (level : Level) (outer : List Level) → Faulty ls
       → SoFar (without_anchors before) (record { level = level; outer = outer })
-      → read_on (record { level = level; outer = outer }) ((place, closing) ∷ ls) fault ≡ Err e
-      → Fault before ((place, closing) ∷ ls) fault e
+      → read_on (record { level = level; outer = outer }) ((offset, closing) ∷ ls) fault ≡ Err e
+      → Fault before ((offset, closing) ∷ ls) fault e
   unfolding read_on meet
-  closing_by before ls place level [] others so_far is =
-      taken before ls (place, closing) (record { level = with_unit (letters_tree close_paren) level; outer = [] }) others
-      (without_anchors-append before ((place, closing) ∷ []))
+  closing_by before ls offset level [] others so_far is =
+      taken before ls (offset, closing) (record { level = with_unit (letters_tree close_paren) level; outer = [] }) others
+      (without_anchors-append before ((offset, closing) ∷ []))
       (record {
-        stand = faults.one_more place so_far.stand faults.an_end;
-        last = faults.closed (without_anchors before) place;
-        groups = faults.stray place so_far.groups faults.no_lexeme;
+        stand = faults.one_more offset so_far.stand faults.an_end;
+        last = faults.closed (without_anchors before) offset;
+        groups = faults.stray offset so_far.groups faults.no_lexeme;
       }) is
-  closing_by before ls place level (o ∷ outer) others so_far is =
-      taken before ls (place, closing) (record { level = with_unit (level_tree level) o; outer = outer }) others
-      (without_anchors-append before ((place, closing) ∷ []))
+  closing_by before ls offset level (o ∷ outer) others so_far is =
+      taken before ls (offset, closing) (record { level = with_unit (level_tree level) o; outer = outer }) others
+      (without_anchors-append before ((offset, closing) ∷ []))
       (record {
-        stand = faults.one_more place so_far.stand faults.an_end;
-        last = faults.closed (without_anchors before) place;
-        groups = open-end (without_anchors before) place level o (with_unit (level_tree level) o) outer refl so_far.groups;
-      }) is
-
-  bar_by : (before ls : List (ℕ × Lexeme)) (place : ℕ) (s : State) → Faulty ls → SoFar (without_anchors before) s
-      → read_on (record s { level = with_alternative s.level }) ls fault ≡ Err e → Fault before ((place, bar) ∷ ls) fault e
-  bar_by before ls place s others so_far is =
-      taken before ls (place, bar) (record s { level = with_alternative s.level }) others
-      (without_anchors-append before ((place, bar) ∷ []))
-      (record {
-        stand = faults.one_more place so_far.stand faults.a_bar;
-        last = faults.divided (without_anchors before) place;
-        groups = open-on (without_anchors before) ((place, bar) ∷ []) s.level (with_alternative s.level) s.outer refl (faults.a_bar faults.no_lexeme) so_far.groups;
+        stand = faults.one_more offset so_far.stand faults.an_end;
+        last = faults.closed (without_anchors before) offset;
+        groups = open-end (without_anchors before) offset level o (with_unit (level_tree level) o) outer refl so_far.groups;
       }) is
 
-  anchor_by : (before ls : List (ℕ × Lexeme)) (place : ℕ) (s : State) → Faulty ls → SoFar (without_anchors before) s
-      → read_on s ls fault ≡ Err e → Fault before ((place, anchor) ∷ ls) fault e
-  anchor_by before ls place s others so_far is =
-      fault_back before ls (place, anchor) fault e
-      (others (before ++ (place, anchor) ∷ []) s
-      (subst (λ l. SoFar l s) (sym (without_anchors-append before ((place, anchor) ∷ []) ∙ append-nil (without_anchors before))) so_far) is)
+  bar_by : (before ls : List (ℕ × Lexeme)) (offset : ℕ) (s : State) → Faulty ls → SoFar (without_anchors before) s
+      → read_on (record s { level = with_alternative s.level }) ls fault ≡ Err e → Fault before ((offset, bar) ∷ ls) fault e
+  bar_by before ls offset s others so_far is =
+      taken before ls (offset, bar) (record s { level = with_alternative s.level }) others
+      (without_anchors-append before ((offset, bar) ∷ []))
+      (record {
+        stand = faults.one_more offset so_far.stand faults.a_bar;
+        last = faults.divided (without_anchors before) offset;
+        groups = open-on (without_anchors before) ((offset, bar) ∷ []) s.level (with_alternative s.level) s.outer refl (faults.a_bar faults.no_lexeme) so_far.groups;
+      }) is
+
+  anchor_by : (before ls : List (ℕ × Lexeme)) (offset : ℕ) (s : State) → Faulty ls → SoFar (without_anchors before) s
+      → read_on s ls fault ≡ Err e → Fault before ((offset, anchor) ∷ ls) fault e
+  anchor_by before ls offset s others so_far is =
+      fault_back before ls (offset, anchor) fault e
+      (others (before ++ (offset, anchor) ∷ []) s
+      (subst (λ l. SoFar l s) (sym (without_anchors-append before ((offset, anchor) ∷ []) ∙ append-nil (without_anchors before))) so_far) is)
 
   ends_by : (before : List (ℕ × Lexeme)) (s : State) (f : Option EreFault) → fault ≡ f → SoFar (without_anchors before) s
       → read_on s [] f ≡ Err e → Fault before [] fault e
@@ -242,30 +242,30 @@ module _ (fault : Option EreFault) (e : EreFault) where
   faulty : (ls : List (ℕ × Lexeme)) → Faulty ls
   unfolding read_on meet
   faulty [] before s so_far is = ends_by before s fault refl so_far is
-  faulty ((place, unit t) ∷ ls) before s so_far is = unit_by before ls place t s (faulty ls) so_far is
-  faulty ((place, sign b) ∷ ls) before s so_far is =
-      sign_by before ls place b s.level.place s.level.alternatives s.level.before s.level.last s.outer (faulty ls) so_far is
-  faulty ((place, opening) ∷ ls) before s so_far is = opening_by before ls place s (nat_lt (length s.outer) max_depth) (faulty ls) so_far refl is
-  faulty ((place, closing) ∷ ls) before s so_far is = closing_by before ls place s.level s.outer (faulty ls) so_far is
-  faulty ((place, bar) ∷ ls) before s so_far is = bar_by before ls place s (faulty ls) so_far is
-  faulty ((place, anchor) ∷ ls) before s so_far is = anchor_by before ls place s (faulty ls) so_far is
+  faulty ((offset, unit t) ∷ ls) before s so_far is = unit_by before ls offset t s (faulty ls) so_far is
+  faulty ((offset, sign b) ∷ ls) before s so_far is =
+      sign_by before ls offset b s.level.offset s.level.alternatives s.level.before s.level.last s.outer (faulty ls) so_far is
+  faulty ((offset, opening) ∷ ls) before s so_far is = opening_by before ls offset s (nat_lt (length s.outer) max_depth) (faulty ls) so_far refl is
+  faulty ((offset, closing) ∷ ls) before s so_far is = closing_by before ls offset s.level s.outer (faulty ls) so_far is
+  faulty ((offset, bar) ∷ ls) before s so_far is = bar_by before ls offset s (faulty ls) so_far is
+  faulty ((offset, anchor) ∷ ls) before s so_far is = anchor_by before ls offset s (faulty ls) so_far is
 
 -- ---- the fault of a pattern
 
 -- a lexeme among those that characters begin with
-split : (prefix : List (ℕ × Lexeme)) (place : ℕ) (l : Lexeme) (after : List (ℕ × Lexeme)) {cs others : List Located}
-    → BeginWith cs (prefix ++ (place, l) ∷ after) others
+split : (prefix : List (ℕ × Lexeme)) (offset : ℕ) (l : Lexeme) (after : List (ℕ × Lexeme)) {cs others : List Located}
+    → BeginWith cs (prefix ++ (offset, l) ∷ after) others
     → (x : Located) × (following : List Located) × (more : List Located) × BeginWith cs prefix (x ∷ following)
-    × IsLexeme x following more l × (x.0 ≡ place)
-split [] place l after (faults.one_lexeme {x = x} {after = following} {more = more} is others) = (x, following, more, faults.no_lexeme, is, refl)
-split (y ∷ prefix) place l after (faults.one_lexeme is others) =
-    let found = split prefix place l after others in
+    × IsLexeme x following more l × (x.0 ≡ offset)
+split [] offset l after (faults.one_lexeme {x = x} {after = following} {more = more} is others) = (x, following, more, faults.no_lexeme, is, refl)
+split (y ∷ prefix) offset l after (faults.one_lexeme is others) =
+    let found = split prefix offset l after others in
     (found.0, found.1, found.2, faults.one_lexeme is found.3, found.4, found.5)
 
 fault_of : (pattern : List ℕ) (ls : List (ℕ × Lexeme)) (fault : Option EreFault) (e : EreFault) (others : List Located)
     → BeginWith (located pattern) ls others → Ends others fault → Fault [] ls fault e → IsFaultOf pattern e
-fault_of pattern ls fault e others are ends (early prefix after {place = place} {l = l} {cause = cause} is stand not same) =
-    let found = split prefix place l after (subst (λ ks. BeginWith (located pattern) ks others) is are) in
+fault_of pattern ls fault e others are ends (early prefix after {offset = offset} {l = l} {cause = cause} is stand not same) =
+    let found = split prefix offset l after (subst (λ ks. BeginWith (located pattern) ks others) is are) in
     subst (IsFaultOf pattern) (ap (λ p. fault_at p cause) found.5 ∙ same) (faults.misplaced found.3 stand found.4 not)
 fault_of pattern ls fault e [] are ends (left_open prefix after none is stand whole same) =
     subst (IsFaultOf pattern) same (faults.group_open prefix are stand is whole)

@@ -9,17 +9,17 @@ use Rattle.lic_ere.specs.Located.{Located, further, with_remaining}
 use Rattle.lic_ere.specs.Faults.{fault_at, Fails, Gives, map_ok}
 
 -- a reading that fails wherever another does fails with it
-pub Fails-with : {A B : Type 0} (cause : EreCause) (place : ℕ) (r : Result A EreFault) (s : Result B EreFault)
-    → ((e : EreFault) → r ≡ Err e → s ≡ Err e) → Fails cause place r → Fails cause place s
-Fails-with OutOfMemory place r s along h = h
-Fails-with cause place r s along h = along (fault_at place cause) h
+pub Fails-with : {A B : Type 0} (cause : EreCause) (offset : ℕ) (r : Result A EreFault) (s : Result B EreFault)
+    → ((e : EreFault) → r ≡ Err e → s ≡ Err e) → Fails cause offset r → Fails cause offset s
+Fails-with OutOfMemory offset r s along h = h
+Fails-with cause offset r s along h = along (fault_at offset cause) h
 
 -- the exit by `?` of a reader that failed
 pub Gives-err : {X A B : Type 0} (view : X → B) (result : Result X EreFault) (e : EreFault) (r : Result A EreFault)
     (s : Result B EreFault) → IsErrAnd result (λ f. f ≡ e) → ((d : EreFault) → r ≡ Err d → s ≡ Err d)
-    → Fails e.cause e.place r → Gives view result s
+    → Fails e.cause e.offset r → Gives view result s
 Gives-err view (Ok x) e r s left along h = absurd left
-Gives-err view (Err f) e r s left along h = subst (λ (d : EreFault). Fails d.cause d.place s) (sym left) (Fails-with e.cause e.place r s along h)
+Gives-err view (Err f) e r s left along h = subst (λ (d : EreFault). Fails d.cause d.offset s) (sym left) (Fails-with e.cause e.offset r s along h)
 
 pub map_ok-same : {A B : Type 0} (f g : A → B) (r : Result A EreFault) → ((x : A) → f x ≡ g x) → map_ok f r ≡ map_ok g r
 map_ok-same f g (Ok x) same = ap (λ y. Ok y) (same x)

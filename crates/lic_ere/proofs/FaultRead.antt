@@ -54,44 +54,44 @@ member_fails (extension {x = x} {after = after} alone is) = alone_fails x after 
 member_fails (out_of_order {x = x} {hyphen = h} {y = y} {after = after} a b c) = order_fails x h y after a b c
 member_fails (extension_last {x = x} {hyphen = h} {y = y} {after = after} a b c is) = last_fails x h y after a b c (IsExtension-begins is)
 
-this_fails : (place : ℕ) (first : Bool) (x : Located) (after : List Located) (e : EreFault) → (not_closing : closes first x.1 ≡ false)
-    → IsFaultyMember (x ∷ after) e → members_of place first (x ∷ after) ≡ Err e
-this_fails place first x after e not_closing is =
-    members_fail place first x after not_closing (x ∷ after) e refl (ap (map_ok (with_remaining after)) (member_fails is))
+this_fails : (offset : ℕ) (first : Bool) (x : Located) (after : List Located) (e : EreFault) → (not_closing : closes first x.1 ≡ false)
+    → IsFaultyMember (x ∷ after) e → members_of offset first (x ∷ after) ≡ Err e
+this_fails offset first x after e not_closing is =
+    members_fail offset first x after not_closing (x ∷ after) e refl (ap (map_ok (with_remaining after)) (member_fails is))
 
-members_fails : (place : ℕ) {cs : List Located} {e : EreFault} → AreFaultyMembers place cs e → members_of place false cs ≡ Err e
+members_fails : (offset : ℕ) {cs : List Located} {e : EreFault} → AreFaultyMembers offset cs e → members_of offset false cs ≡ Err e
 unfolding members_at member_of
-members_fails place faults.not_closed = refl
-members_fails place (faults.this {x = x} {after = after} {e = e} ne is) = this_fails place false x after e (not_this x.1 close_bracket ne) is
-members_fails place (faults.later {x = x} {after = after} {more = more} {m = m} ne is others) =
-    members_turn place false x after (not_this x.1 close_bracket ne) (x ∷ after) m more refl (member_read is) ∙ ap (following (m ∷ [])) (members_fails place others)
+members_fails offset faults.not_closed = refl
+members_fails offset (faults.this {x = x} {after = after} {e = e} ne is) = this_fails offset false x after e (not_this x.1 close_bracket ne) is
+members_fails offset (faults.later {x = x} {after = after} {more = more} {m = m} ne is others) =
+    members_turn offset false x after (not_this x.1 close_bracket ne) (x ∷ after) m more refl (member_read is) ∙ ap (following (m ∷ [])) (members_fails offset others)
 
-first_later : (place : ℕ) (cs more : List Located) (m : Member) (e : EreFault) → IsMember cs more m → members_of place false more ≡ Err e
-    → members_of place true cs ≡ Err e
+first_later : (offset : ℕ) (cs more : List Located) (m : Member) (e : EreFault) → IsMember cs more m → members_of offset false more ≡ Err e
+    → members_of offset true cs ≡ Err e
 unfolding member_of
-first_later place [] more m e is others = elim is [ ]
-first_later place (x ∷ after) more m e is others =
-    members_turn place true x after refl (x ∷ after) m more refl (member_read is) ∙ ap (following (m ∷ [])) others
+first_later offset [] more m e is others = elim is [ ]
+first_later offset (x ∷ after) more m e is others =
+    members_turn offset true x after refl (x ∷ after) m more refl (member_read is) ∙ ap (following (m ∷ [])) others
 
-first_this : (place : ℕ) (cs : List Located) (e : EreFault) → IsFaultyMember cs e → members_of place true cs ≡ Err e
-first_this place [] e is = elim is [ ]
-first_this place (x ∷ after) e is = this_fails place true x after e refl is
+first_this : (offset : ℕ) (cs : List Located) (e : EreFault) → IsFaultyMember cs e → members_of offset true cs ≡ Err e
+first_this offset [] e is = elim is [ ]
+first_this offset (x ∷ after) e is = this_fails offset true x after e refl is
 
-first_fails : (place : ℕ) {cs : List Located} {e : EreFault} → AreFaultyFirstMembers place cs e → members_of place true cs ≡ Err e
+first_fails : (offset : ℕ) {cs : List Located} {e : EreFault} → AreFaultyFirstMembers offset cs e → members_of offset true cs ≡ Err e
 unfolding members_at
-first_fails place faults.not_closed = refl
-first_fails place (faults.this {cs = cs} {e = e} is) = first_this place cs e is
-first_fails place (faults.later {cs = cs} {more = more} {m = m} {e = e} is others) = first_later place cs more m e is (members_fails place others)
+first_fails offset faults.not_closed = refl
+first_fails offset (faults.this {cs = cs} {e = e} is) = first_this offset cs e is
+first_fails offset (faults.later {cs = cs} {more = more} {m = m} {e = e} is others) = first_later offset cs more m e is (members_fails offset others)
 
-bracket_fails : (place : ℕ) {cs : List Located} {e : EreFault} → IsFaultyBracket place cs e → bracket_of place cs ≡ Err e
+bracket_fails : (offset : ℕ) {cs : List Located} {e : EreFault} → IsFaultyBracket offset cs e → bracket_of offset cs ≡ Err e
 unfolding bracket_at members_at
-bracket_fails place faults.nothing = refl
-bracket_fails place (faults.plain {x = x} {cs = cs} ne is) =
-    plain_is place x cs (not_this x.1 caret ne)
-    ∙ ap (map_ok (λ y. (record { members = y.0; complement = false }, y.1))) (first_fails place is)
-bracket_fails place (faults.complement {x = x} {cs = cs} e is) =
-    complement_is place x cs (eq-eqb _ _ e)
-    ∙ ap (map_ok (λ y. (record { members = y.0; complement = true }, y.1))) (first_fails place is)
+bracket_fails offset faults.nothing = refl
+bracket_fails offset (faults.plain {x = x} {cs = cs} ne is) =
+    plain_is offset x cs (not_this x.1 caret ne)
+    ∙ ap (map_ok (λ y. (record { members = y.0; complement = false }, y.1))) (first_fails offset is)
+bracket_fails offset (faults.complement {x = x} {cs = cs} e is) =
+    complement_is offset x cs (eq-eqb _ _ e)
+    ∙ ap (map_ok (λ y. (record { members = y.0; complement = true }, y.1))) (first_fails offset is)
 
 -- ---- lexemes
 

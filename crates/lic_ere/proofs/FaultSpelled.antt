@@ -74,55 +74,55 @@ member_fault x (h ∷ y ∷ after) e is = member_by x h y after e (h.1 == dash &
 
 -- a member, and those after it
 abbrev then_members : ℕ → List Located → Result (Member × ℕ) EreFault → Result (List Member × ℕ) EreFault
-then_members place xs r = r >>= λ m. map_ok (λ ms. (m.0 ∷ ms.0, 1 + ms.1)) (members_at place false m.1 xs)
+then_members offset xs r = r >>= λ m. map_ok (λ ms. (m.0 ∷ ms.0, 1 + ms.1)) (members_at offset false m.1 xs)
 
 Faulty : ℕ → List Located → Type 0
-Faulty place xs = (n : ℕ) (e : EreFault) → members_at place false n xs ≡ Err e → AreFaultyMembers place (drop n xs) e
+Faulty offset xs = (n : ℕ) (e : EreFault) → members_at offset false n xs ≡ Err e → AreFaultyMembers offset (drop n xs) e
 
-later_by : (place : ℕ) (x : Located) (xs : List Located) (e : EreFault) (t : Bool) → (x.1 == close_bracket) ≡ t
-    → ((n : ℕ) (d : EreFault) → members_at place false n xs ≡ Err d → AreFaultyMembers place (drop n xs) d)
+later_by : (offset : ℕ) (x : Located) (xs : List Located) (e : EreFault) (t : Bool) → (x.1 == close_bracket) ≡ t
+    → ((n : ℕ) (d : EreFault) → members_at offset false n xs ≡ Err d → AreFaultyMembers offset (drop n xs) d)
     → (r : Result (Member × ℕ) EreFault) → member_at x xs ≡ r
-    → cond t (Ok ([], 1)) (then_members place xs r) ≡ failed {A = List Member × ℕ} e → AreFaultyMembers place (x ∷ xs) e
-later_by place x xs e true closes all r was is = not_failed ([], 1) e is
-later_by place x xs e false closes all (Err d) was is =
+    → cond t (Ok ([], 1)) (then_members offset xs r) ≡ failed {A = List Member × ℕ} e → AreFaultyMembers offset (x ∷ xs) e
+later_by offset x xs e true closes all r was is = not_failed ([], 1) e is
+later_by offset x xs e false closes all (Err d) was is =
     faults.this (is_not_this x.1 close_bracket closes)
     (subst (IsFaultyMember (x ∷ xs)) (same_fault d e is) (member_fault x xs d was))
-later_by place x xs e false closes all (Ok m) was is =
+later_by offset x xs e false closes all (Ok m) was is =
     faults.later (is_not_this x.1 close_bracket closes) (one_spelled x xs m.0 m.1 was)
-    (all m.1 e (map_ok-failed (λ ms. (m.0 ∷ ms.0, 1 + ms.1)) (members_at place false m.1 xs) e is))
+    (all m.1 e (map_ok-failed (λ ms. (m.0 ∷ ms.0, 1 + ms.1)) (members_at offset false m.1 xs) e is))
 
-members_fault : (place : ℕ) (xs : List Located) → Faulty place xs
+members_fault : (offset : ℕ) (xs : List Located) → Faulty offset xs
 unfolding Faulty members_at
-members_fault place [] zero e is = subst (AreFaultyMembers place []) (same_fault _ e is) faults.not_closed
-members_fault place [] (suc n) e is = subst (AreFaultyMembers place []) (same_fault _ e is) faults.not_closed
-members_fault place (x ∷ xs) (suc n) e is = members_fault place xs n e (map_ok-failed (further 1) (members_at place false n xs) e is)
-members_fault place (x ∷ xs) zero e is = later_by place x xs e (x.1 == close_bracket) refl (members_fault place xs) (member_at x xs) refl is
+members_fault offset [] zero e is = subst (AreFaultyMembers offset []) (same_fault _ e is) faults.not_closed
+members_fault offset [] (suc n) e is = subst (AreFaultyMembers offset []) (same_fault _ e is) faults.not_closed
+members_fault offset (x ∷ xs) (suc n) e is = members_fault offset xs n e (map_ok-failed (further 1) (members_at offset false n xs) e is)
+members_fault offset (x ∷ xs) zero e is = later_by offset x xs e (x.1 == close_bracket) refl (members_fault offset xs) (member_at x xs) refl is
 
-first_by : (place : ℕ) (x : Located) (xs : List Located) (e : EreFault) (r : Result (Member × ℕ) EreFault) → member_at x xs ≡ r
-    → then_members place xs r ≡ failed {A = List Member × ℕ} e → AreFaultyFirstMembers place (x ∷ xs) e
+first_by : (offset : ℕ) (x : Located) (xs : List Located) (e : EreFault) (r : Result (Member × ℕ) EreFault) → member_at x xs ≡ r
+    → then_members offset xs r ≡ failed {A = List Member × ℕ} e → AreFaultyFirstMembers offset (x ∷ xs) e
 unfolding Faulty
-first_by place x xs e (Err d) was is = faults.this (subst (IsFaultyMember (x ∷ xs)) (same_fault d e is) (member_fault x xs d was))
-first_by place x xs e (Ok m) was is =
+first_by offset x xs e (Err d) was is = faults.this (subst (IsFaultyMember (x ∷ xs)) (same_fault d e is) (member_fault x xs d was))
+first_by offset x xs e (Ok m) was is =
     faults.later (one_spelled x xs m.0 m.1 was)
-    (members_fault place xs m.1 e (map_ok-failed (λ ms. (m.0 ∷ ms.0, 1 + ms.1)) (members_at place false m.1 xs) e is))
+    (members_fault offset xs m.1 e (map_ok-failed (λ ms. (m.0 ∷ ms.0, 1 + ms.1)) (members_at offset false m.1 xs) e is))
 
-first_fault : (place : ℕ) (cs : List Located) (e : EreFault) → members_at place true 0 cs ≡ Err e → AreFaultyFirstMembers place cs e
+first_fault : (offset : ℕ) (cs : List Located) (e : EreFault) → members_at offset true 0 cs ≡ Err e → AreFaultyFirstMembers offset cs e
 unfolding members_at
-first_fault place [] e is = subst (AreFaultyFirstMembers place []) (same_fault _ e is) faults.not_closed
-first_fault place (x ∷ xs) e is = first_by place x xs e (member_at x xs) refl is
+first_fault offset [] e is = subst (AreFaultyFirstMembers offset []) (same_fault _ e is) faults.not_closed
+first_fault offset (x ∷ xs) e is = first_by offset x xs e (member_at x xs) refl is
 
-caret_by : (place : ℕ) (x : Located) (cs : List Located) (e : EreFault) (t : Bool) → (x.1 == caret) ≡ t
-    → members_at place true 0 (drop (cond {A = Bool × ℕ} t (true, 1) (false, 0)).1 (x ∷ cs)) ≡ Err e → IsFaultyBracket place (x ∷ cs) e
-caret_by place x cs e true first is = faults.complement (eqb-true _ _ first) (first_fault place cs e is)
-caret_by place x cs e false first is = faults.plain (is_not_this x.1 caret first) (first_fault place (x ∷ cs) e is)
+caret_by : (offset : ℕ) (x : Located) (cs : List Located) (e : EreFault) (t : Bool) → (x.1 == caret) ≡ t
+    → members_at offset true 0 (drop (cond {A = Bool × ℕ} t (true, 1) (false, 0)).1 (x ∷ cs)) ≡ Err e → IsFaultyBracket offset (x ∷ cs) e
+caret_by offset x cs e true first is = faults.complement (eqb-true _ _ first) (first_fault offset cs e is)
+caret_by offset x cs e false first is = faults.plain (is_not_this x.1 caret first) (first_fault offset (x ∷ cs) e is)
 
-bracket_fault : (place : ℕ) (cs : List Located) (e : EreFault) → bracket_at place cs ≡ Err e → IsFaultyBracket place cs e
+bracket_fault : (offset : ℕ) (cs : List Located) (e : EreFault) → bracket_at offset cs ≡ Err e → IsFaultyBracket offset cs e
 unfolding bracket_at members_at
-bracket_fault place [] e is = subst (IsFaultyBracket place []) (same_fault _ e is) faults.nothing
-bracket_fault place (x ∷ cs) e is =
-    caret_by place x cs e (x.1 == caret) refl
+bracket_fault offset [] e is = subst (IsFaultyBracket offset []) (same_fault _ e is) faults.nothing
+bracket_fault offset (x ∷ cs) e is =
+    caret_by offset x cs e (x.1 == caret) refl
     (map_ok-failed (λ ms. (record { members = ms.0; complement = (complement_at (x ∷ cs)).0 }, (complement_at (x ∷ cs)).1 + ms.1))
-    (members_at place true 0 (drop (complement_at (x ∷ cs)).1 (x ∷ cs))) e is)
+    (members_at offset true 0 (drop (complement_at (x ∷ cs)).1 (x ∷ cs))) e is)
 
 -- ---- lexemes
 
@@ -178,7 +178,7 @@ abbrev pub Ends : List Located → Option EreFault → Type 0
 Ends [] fault = fault ≡ None
 Ends (x ∷ after) fault = (e : EreFault) × (fault ≡ Some e) × IsNoLexeme x after e
 
--- the lexemes that are read are spelled, up to the first place where none is
+-- the lexemes that are read are spelled, up to the first offset where none is
 pub spelled : (skip : ℕ) (cs : List Located)
     → (others : List Located) × BeginWith (drop skip cs) (lexemes skip cs).found others × Ends others (lexemes skip cs).fault
 unfolding lexemes

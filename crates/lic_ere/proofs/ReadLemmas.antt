@@ -25,15 +25,15 @@ pub is_read : (pattern : List ℕ) (result : Result Ere EreFault) (tree : Tree) 
     → Gives tree_of result (reading pattern) → Gives tree_of result (Ok tree)
 is_read pattern result tree is given = Gives-same tree_of result (reading pattern) (Ok tree) (IsPattern-read pattern tree is) given
 
-decided : (pattern : List ℕ) (cause : EreCause) (place : ℕ) → Fails cause place (reading pattern)
-    → (fault_at place cause ≡ out_of_memory) ⊎ IsFaultOf pattern (fault_at place cause)
-decided pattern OutOfMemory place given = inl (ap (λ p. fault_at p OutOfMemory) given)
-decided pattern cause place given = inr (reading-IsFaultOf pattern (fault_at place cause) given)
+decided : (pattern : List ℕ) (cause : EreCause) (offset : ℕ) → Fails cause offset (reading pattern)
+    → (fault_at offset cause ≡ out_of_memory) ⊎ IsFaultOf pattern (fault_at offset cause)
+decided pattern OutOfMemory offset given = inl (ap (λ p. fault_at p OutOfMemory) given)
+decided pattern cause offset given = inr (reading-IsFaultOf pattern (fault_at offset cause) given)
 
 pub is_decided : (pattern : List ℕ) (result : Result Ere EreFault) → Gives tree_of result (reading pattern)
     → IfErr result (λ e. (e ≡ out_of_memory) ⊎ IsFaultOf pattern e)
 is_decided pattern (Ok tree) given = tt
-is_decided pattern (Err e) given = decided pattern e.cause e.place given
+is_decided pattern (Err e) given = decided pattern e.cause e.offset given
 
 pub is_reported : (pattern : List ℕ) (result : Result Ere EreFault) (e : EreFault) → IsFaultOf pattern e
     → Gives tree_of result (reading pattern) → Gives tree_of result (Err e)

@@ -45,7 +45,7 @@ module _ (s : State) (x : Located) (after : List Located) where
       → read_from s rest ≡ (meet x.0 l s >>= λ t. read_from t following)
   read_turn rest l following all is = ap (read_from s) all ∙ read-next ∙ next_turn (lexeme_at x after) l following is
 
-  -- a place where no lexeme can be read
+  -- an offset where no lexeme can be read
   pub read_fails : (rest : List Located) (e : EreFault) → rest ≡ x ∷ after → map_ok (with_remaining after) (lexeme_at x after) ≡ Err e → read_from s rest ≡ Err e
   read_fails rest e all is = ap (read_from s) all ∙ read-next ∙ next_fails (lexeme_at x after) e is
 

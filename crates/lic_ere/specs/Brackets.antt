@@ -39,13 +39,13 @@ member_at x (hyphen ∷ y ∷ rest) =
 abbrev pub closes : Bool → ℕ → Bool
 closes first c = not first && c == close_bracket
 
--- The members up to the `]` that closes the bracket which opens at a place, and how many characters they take with it.
+-- The members up to the `]` that closes the bracket which opens at an offset, and how many characters they take with it.
 -- The last member takes some characters more, which are skipped.
 unfoldable pub members_at : ℕ → Bool → ℕ → List Located → Result (List Member × ℕ) EreFault
-members_at place first skip [] = Err (fault_at place BracketNotClosed)
-members_at place first (suc skip) (x ∷ rest) = map_ok (further 1) (members_at place first skip rest)
-members_at place first zero (x ∷ rest) =
-    let others : ℕ → Result (List Member × ℕ) EreFault = λ taken. members_at place false taken rest in
+members_at offset first skip [] = Err (fault_at offset BracketNotClosed)
+members_at offset first (suc skip) (x ∷ rest) = map_ok (further 1) (members_at offset first skip rest)
+members_at offset first zero (x ∷ rest) =
+    let others : ℕ → Result (List Member × ℕ) EreFault = λ taken. members_at offset false taken rest in
     if closes first x.1 then Ok ([], 1) else
     (member_at x rest >>= λ m. map_ok (λ ms. (m.0 ∷ ms.0, 1 + ms.1)) (others m.1))
 
@@ -54,9 +54,9 @@ abbrev pub complement_at : List Located → Bool × ℕ
 complement_at [] = (false, 0)
 complement_at (x ∷ rest) = if x.1 == caret then (true, 1) else (false, 0)
 
--- after the `[` at a place: a `^` or none, and the members
+-- after the `[` at an offset: a `^` or none, and the members
 unfoldable pub bracket_at : ℕ → List Located → Result (Brackets × ℕ) EreFault
-bracket_at place rest =
+bracket_at offset rest =
     let sign : Bool × ℕ = complement_at rest in
     map_ok (λ ms. (record { members = ms.0; complement = sign.0 }, sign.1 + ms.1))
-    (members_at place true 0 (drop sign.1 rest))
+    (members_at offset true 0 (drop sign.1 rest))

@@ -30,28 +30,28 @@ pub data IsFaultyMember : List Located → EreFault → Type 0 where
   extension_last : {x hyphen y : Located} {after : List Located} → hyphen.1 ≡ dash → y.1 ≢ close_bracket → x.1 ≤ y.1
       → IsExtension y.1 after → IsFaultyMember (x ∷ hyphen ∷ y ∷ after) (fault_at y.0 BracketExtension)
 
--- members of the bracket that opens at a place, and then one at fault, or the end of the pattern
-pub data AreFaultyMembers (place : ℕ) : List Located → EreFault → Type 0 where
-  not_closed : AreFaultyMembers place [] (fault_at place BracketNotClosed)
+-- members of the bracket that opens at an offset, and then one at fault, or the end of the pattern
+pub data AreFaultyMembers (offset : ℕ) : List Located → EreFault → Type 0 where
+  not_closed : AreFaultyMembers offset [] (fault_at offset BracketNotClosed)
   this : {x : Located} {after : List Located} {e : EreFault} → x.1 ≢ close_bracket → IsFaultyMember (x ∷ after) e
-      → AreFaultyMembers place (x ∷ after) e
+      → AreFaultyMembers offset (x ∷ after) e
   later : {x : Located} {after more : List Located} {m : Member} {e : EreFault} → x.1 ≢ close_bracket
-      → IsMember (x ∷ after) more m → AreFaultyMembers place more e → AreFaultyMembers place (x ∷ after) e
+      → IsMember (x ∷ after) more m → AreFaultyMembers offset more e → AreFaultyMembers offset (x ∷ after) e
 
 -- the same from the first member on, which may be a `]`
-pub data AreFaultyFirstMembers (place : ℕ) : List Located → EreFault → Type 0 where
-  not_closed : AreFaultyFirstMembers place [] (fault_at place BracketNotClosed)
-  this : {cs : List Located} {e : EreFault} → IsFaultyMember cs e → AreFaultyFirstMembers place cs e
-  later : {cs more : List Located} {m : Member} {e : EreFault} → IsMember cs more m → AreFaultyMembers place more e
-      → AreFaultyFirstMembers place cs e
+pub data AreFaultyFirstMembers (offset : ℕ) : List Located → EreFault → Type 0 where
+  not_closed : AreFaultyFirstMembers offset [] (fault_at offset BracketNotClosed)
+  this : {cs : List Located} {e : EreFault} → IsFaultyMember cs e → AreFaultyFirstMembers offset cs e
+  later : {cs more : List Located} {m : Member} {e : EreFault} → IsMember cs more m → AreFaultyMembers offset more e
+      → AreFaultyFirstMembers offset cs e
 
--- what comes after the `[` at a place
-pub data IsFaultyBracket (place : ℕ) : List Located → EreFault → Type 0 where
-  nothing : IsFaultyBracket place [] (fault_at place BracketNotClosed)
-  plain : {x : Located} {cs : List Located} {e : EreFault} → x.1 ≢ caret → AreFaultyFirstMembers place (x ∷ cs) e
-      → IsFaultyBracket place (x ∷ cs) e
-  complement : {x : Located} {cs : List Located} {e : EreFault} → x.1 ≡ caret → AreFaultyFirstMembers place cs e
-      → IsFaultyBracket place (x ∷ cs) e
+-- what comes after the `[` at an offset
+pub data IsFaultyBracket (offset : ℕ) : List Located → EreFault → Type 0 where
+  nothing : IsFaultyBracket offset [] (fault_at offset BracketNotClosed)
+  plain : {x : Located} {cs : List Located} {e : EreFault} → x.1 ≢ caret → AreFaultyFirstMembers offset (x ∷ cs) e
+      → IsFaultyBracket offset (x ∷ cs) e
+  complement : {x : Located} {cs : List Located} {e : EreFault} → x.1 ≡ caret → AreFaultyFirstMembers offset cs e
+      → IsFaultyBracket offset (x ∷ cs) e
 
 -- No lexeme begins with a character and those after it, by this fault.
 pub data IsNoLexeme : Located → List Located → EreFault → Type 0 where
@@ -70,35 +70,35 @@ pub data IsNoLexeme : Located → List Located → EreFault → Type 0 where
 -- the last of these is nothing that can be repeated: there is none, or it is a `(` or a `|`
 pub data EndInNothing : List (ℕ × Lexeme) → Type 0 where
   no_lexeme : EndInNothing []
-  opened : (ls : List (ℕ × Lexeme)) (place : ℕ) → EndInNothing (ls ++ (place, opening) ∷ [])
-  divided : (ls : List (ℕ × Lexeme)) (place : ℕ) → EndInNothing (ls ++ (place, bar) ∷ [])
+  opened : (ls : List (ℕ × Lexeme)) (offset : ℕ) → EndInNothing (ls ++ (offset, opening) ∷ [])
+  divided : (ls : List (ℕ × Lexeme)) (offset : ℕ) → EndInNothing (ls ++ (offset, bar) ∷ [])
 
 -- the last of these is a repetition sign
 pub data EndInSign : List (ℕ × Lexeme) → Type 0 where
-  repeated : (ls : List (ℕ × Lexeme)) (place : ℕ) (b : Bounds) → EndInSign (ls ++ (place, sign (Some b)) ∷ [])
+  repeated : (ls : List (ℕ × Lexeme)) (offset : ℕ) (b : Bounds) → EndInSign (ls ++ (offset, sign (Some b)) ∷ [])
 
 -- the last of these ends a unit
 pub data EndInUnit : List (ℕ × Lexeme) → Type 0 where
-  plain : (ls : List (ℕ × Lexeme)) (place : ℕ) (t : Tree) → EndInUnit (ls ++ (place, unit t) ∷ [])
-  closed : (ls : List (ℕ × Lexeme)) (place : ℕ) → EndInUnit (ls ++ (place, closing) ∷ [])
+  plain : (ls : List (ℕ × Lexeme)) (offset : ℕ) (t : Tree) → EndInUnit (ls ++ (offset, unit t) ∷ [])
+  closed : (ls : List (ℕ × Lexeme)) (offset : ℕ) → EndInUnit (ls ++ (offset, closing) ∷ [])
 
 -- Each group that begins among these lexemes ends among them, and no other does.
 pub data AreWhole : List (ℕ × Lexeme) → Type 0 where
   no_lexeme : AreWhole []
-  a_unit : {ls : List (ℕ × Lexeme)} {place : ℕ} {t : Tree} → AreWhole ls → AreWhole ((place, unit t) ∷ ls)
-  a_sign : {ls : List (ℕ × Lexeme)} {place : ℕ} {b : Bounds} → AreWhole ls → AreWhole ((place, sign (Some b)) ∷ ls)
-  a_bar : {ls : List (ℕ × Lexeme)} {place : ℕ} → AreWhole ls → AreWhole ((place, bar) ∷ ls)
-  a_group : {inner ls : List (ℕ × Lexeme)} {place : ℕ} (end : ℕ) → AreWhole inner → AreWhole ls
-      → AreWhole ((place, opening) ∷ (inner ++ (end, closing) ∷ ls))
+  a_unit : {ls : List (ℕ × Lexeme)} {offset : ℕ} {t : Tree} → AreWhole ls → AreWhole ((offset, unit t) ∷ ls)
+  a_sign : {ls : List (ℕ × Lexeme)} {offset : ℕ} {b : Bounds} → AreWhole ls → AreWhole ((offset, sign (Some b)) ∷ ls)
+  a_bar : {ls : List (ℕ × Lexeme)} {offset : ℕ} → AreWhole ls → AreWhole ((offset, bar) ∷ ls)
+  a_group : {inner ls : List (ℕ × Lexeme)} {offset : ℕ} (end : ℕ) → AreWhole inner → AreWhole ls
+      → AreWhole ((offset, opening) ∷ (inner ++ (end, closing) ∷ ls))
 
 -- That many groups are open after these lexemes.
 pub data AreOpen : List (ℕ × Lexeme) → ℕ → Type 0 where
   none : {ls : List (ℕ × Lexeme)} → AreWhole ls → AreOpen ls 0
   -- a `)` outside of all groups closes nothing
-  stray : {before after : List (ℕ × Lexeme)} (place : ℕ) → AreOpen before 0 → AreWhole after
-      → AreOpen (before ++ (place, closing) ∷ after) 0
-  one_more : {before after : List (ℕ × Lexeme)} {depth : ℕ} (place : ℕ) → AreOpen before depth → AreWhole after
-      → AreOpen (before ++ (place, opening) ∷ after) (suc depth)
+  stray : {before after : List (ℕ × Lexeme)} (offset : ℕ) → AreOpen before 0 → AreWhole after
+      → AreOpen (before ++ (offset, closing) ∷ after) 0
+  one_more : {before after : List (ℕ × Lexeme)} {depth : ℕ} (offset : ℕ) → AreOpen before depth → AreWhole after
+      → AreOpen (before ++ (offset, opening) ∷ after) (suc depth)
 
 -- a lexeme that may come after these: a repetition sign with its bounds after a unit, a `(` in less than 64 groups
 pub data MayFollow (before : List (ℕ × Lexeme)) : Lexeme → Type 0 where
@@ -118,8 +118,8 @@ pub data MayNotFollow (before : List (ℕ × Lexeme)) : Lexeme → EreCause → 
 -- Each of these lexemes may come after those before it.
 pub data AllMayFollow : List (ℕ × Lexeme) → Type 0 where
   no_lexeme : AllMayFollow []
-  one_more : {before : List (ℕ × Lexeme)} {l : Lexeme} (place : ℕ) → AllMayFollow before → MayFollow before l
-      → AllMayFollow (before ++ (place, l) ∷ [])
+  one_more : {before : List (ℕ × Lexeme)} {l : Lexeme} (offset : ℕ) → AllMayFollow before → MayFollow before l
+      → AllMayFollow (before ++ (offset, l) ∷ [])
 
 -- Characters begin with these lexemes, and continue with the others.
 pub data BeginWith : List Located → List (ℕ × Lexeme) → List Located → Type 0 where
@@ -136,7 +136,7 @@ pub data IsFaultOf (pattern : List ℕ) : EreFault → Type 0 where
       → BeginWith (located pattern) ls (x ∷ after) → AllMayFollow (without_anchors ls) → IsLexeme x after more l
       → MayNotFollow (without_anchors ls) l cause → IsFaultOf pattern (fault_at x.0 cause)
   -- the innermost open group: after its `(` each group that begins also ends
-  group_open : {ls after : List (ℕ × Lexeme)} {place : ℕ} (before : List (ℕ × Lexeme))
+  group_open : {ls after : List (ℕ × Lexeme)} {offset : ℕ} (before : List (ℕ × Lexeme))
       → BeginWith (located pattern) ls [] → AllMayFollow (without_anchors ls)
-      → without_anchors ls ≡ before ++ (place, opening) ∷ after → AreWhole after
-      → IsFaultOf pattern (fault_at place GroupNotClosed)
+      → without_anchors ls ≡ before ++ (offset, opening) ∷ after → AreWhole after
+      → IsFaultOf pattern (fault_at offset GroupNotClosed)

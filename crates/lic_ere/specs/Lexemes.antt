@@ -39,9 +39,9 @@ anchor_at x rest = if means_nothing x rest then Ok (anchor, 0) else Err (fault_a
 
 -- after a `\`
 abbrev pub escaped_at : ℕ → List Located → Result (Lexeme × ℕ) EreFault
-escaped_at place [] = Err (fault_at place EndsInBackslash)
-escaped_at place (x ∷ rest) =
-    if is_ascii_punctuation x.1 then Ok (unit (letters_tree x.1), 1) else Err (fault_at place UnknownEscape)
+escaped_at offset [] = Err (fault_at offset EndsInBackslash)
+escaped_at offset (x ∷ rest) =
+    if is_ascii_punctuation x.1 then Ok (unit (letters_tree x.1), 1) else Err (fault_at offset UnknownEscape)
 
 -- the lexeme that begins with a character, and how many further characters it takes
 unfoldable pub lexeme_at : Located → List Located → Result (Lexeme × ℕ) EreFault
@@ -59,15 +59,15 @@ lexeme_at x rest =
     else (if x.1 == caret || x.1 == dollar then anchor_at x rest
     else Ok (unit (letters_tree x.1), 0)))))))))))
 
--- lexemes with their places, up to the first place at which none can be read, and the fault there
+-- lexemes with their offsets, up to the first offset at which none can be read, and the fault there
 pub record Lexemes : Type 0 where
   pub found : List (ℕ × Lexeme)
   pub fault : Option EreFault
 
 -- one lexeme, and those after the characters that it takes
 abbrev pub and_then : ℕ → Result (Lexeme × ℕ) EreFault → (ℕ → Lexemes) → Lexemes
-and_then place (Ok l) others = let rest = others l.1 in record { found = (place, l.0) ∷ rest.found; fault = rest.fault }
-and_then place (Err e) others = record { found = []; fault = Some e }
+and_then offset (Ok l) others = let rest = others l.1 in record { found = (offset, l.0) ∷ rest.found; fault = rest.fault }
+and_then offset (Err e) others = record { found = []; fault = Some e }
 
 -- the lexemes of characters; those that the last lexeme takes are skipped
 unfoldable pub lexemes : ℕ → List Located → Lexemes

@@ -1,4 +1,4 @@
--- The characters of a pattern with their places.
+-- The characters of a pattern with their offsets.
 use Rattle.std.specs.Prelude.{ℕ, ◌+◌, List, [], ◌∷◌, drop, chars}
 use Rattle.std.specs.Char.{len_utf8}
 
@@ -8,8 +8,8 @@ Located = ℕ × ℕ
 
 -- characters, the first of which begins at a byte
 abbrev pub located_from : ℕ → List ℕ → List Located
-located_from place [] = []
-located_from place (c ∷ cs) = (place, c) ∷ located_from (place + len_utf8 c) cs
+located_from offset [] = []
+located_from offset (c ∷ cs) = (offset, c) ∷ located_from (offset + len_utf8 c) cs
 
 -- the characters of a pattern, given as its bytes
 abbrev pub located : List ℕ → List Located

@@ -9,7 +9,7 @@ use Rattle.lic_ere.specs.Faults.{fault_at, ◌>>=◌}
 use Rattle.lic_ere.specs.Located.{Located, located}
 use Rattle.lic_ere.specs.Lexemes.{Lexeme, unit, sign, opening, closing, bar, anchor, lexemes}
 
--- the last unit of a row: none yet, one that may be repeated, or one with its repetition sign
+-- the last unit of a sequence: none yet, one that may be repeated, or one with its repetition sign
 pub data LastUnit : Type 0 where
   no_unit : LastUnit
   single : Tree → LastUnit
@@ -23,14 +23,14 @@ last_units (repeated t) = t ∷ []
 -- The whole pattern, or an open group: where it begins, its alternatives before the last `|`, and the units
 -- after that, the last one apart.
 pub record Level : Type 0 where
-  pub place : ℕ
+  pub offset : ℕ
   pub alternatives : List Tree
   pub before : List Tree
   pub last : LastUnit
 
 -- a level with nothing read
 abbrev pub new_level : ℕ → Level
-new_level place = record { place = place; alternatives = []; before = []; last = no_unit }
+new_level offset = record { offset = offset; alternatives = []; before = []; last = no_unit }
 
 abbrev pub units : Level → List Tree
 units l = l.before ++ last_units l.last
@@ -50,15 +50,15 @@ with_alternative l = record l {
 abbrev pub level_tree : Level → Tree
 level_tree l = choice_tree (l.alternatives ++ units_tree (units l) ∷ [])
 
--- the last unit with a repetition sign at a place
+-- the last unit with a repetition sign at an offset
 abbrev pub repeat_last : ℕ → Option Bounds → LastUnit → Result LastUnit EreFault
-repeat_last place b no_unit = Err (fault_at place NothingToRepeat)
-repeat_last place b (repeated t) = Err (fault_at place TwoSigns)
-repeat_last place None (single t) = Err (fault_at place BadBound)
-repeat_last place (Some b) (single t) = Ok (repeated (repeat t b.min b.max))
+repeat_last offset b no_unit = Err (fault_at offset NothingToRepeat)
+repeat_last offset b (repeated t) = Err (fault_at offset TwoSigns)
+repeat_last offset None (single t) = Err (fault_at offset BadBound)
+repeat_last offset (Some b) (single t) = Ok (repeated (repeat t b.min b.max))
 
 abbrev pub with_sign : ℕ → Option Bounds → Level → Result Level EreFault
-with_sign place b l = repeat_last place b l.last >>= λ last. Ok (record l { last = last })
+with_sign offset b l = repeat_last offset b l.last >>= λ last. Ok (record l { last = last })
 
 -- how deep groups may be nested
 abbrev pub max_depth : ℕ
@@ -73,9 +73,9 @@ abbrev pub start : State
 start = record { level = new_level 0; outer = [] }
 
 abbrev pub open_group : ℕ → State → Result State EreFault
-open_group place s =
-    if nat_lt (length s.outer) max_depth then Ok (record { level = new_level place; outer = s.level ∷ s.outer })
-    else Err (fault_at place TooDeep)
+open_group offset s =
+    if nat_lt (length s.outer) max_depth then Ok (record { level = new_level offset; outer = s.level ∷ s.outer })
+    else Err (fault_at offset TooDeep)
 
 -- the innermost group becomes a unit of the level round it; a `)` that closes nothing is an ordinary character
 abbrev pub close_group : Level → List Level → State
@@ -84,17 +84,17 @@ close_group level (o ∷ outer) = record { level = with_unit (level_tree level) 
 
 -- one more lexeme
 unfoldable pub meet : ℕ → Lexeme → State → Result State EreFault
-meet place (unit t) s = Ok (record s { level = with_unit t s.level })
-meet place (sign b) s = with_sign place b s.level >>= λ level. Ok (record s { level = level })
-meet place opening s = open_group place s
-meet place closing s = Ok (close_group s.level s.outer)
-meet place bar s = Ok (record s { level = with_alternative s.level })
-meet place anchor s = Ok s
+meet offset (unit t) s = Ok (record s { level = with_unit t s.level })
+meet offset (sign b) s = with_sign offset b s.level >>= λ level. Ok (record s { level = level })
+meet offset opening s = open_group offset s
+meet offset closing s = Ok (close_group s.level s.outer)
+meet offset bar s = Ok (record s { level = with_alternative s.level })
+meet offset anchor s = Ok s
 
 -- after the last lexeme
 abbrev pub finish : Level → List Level → Result Tree EreFault
 finish level [] = Ok (level_tree level)
-finish level (o ∷ outer) = Err (fault_at level.place GroupNotClosed)
+finish level (o ∷ outer) = Err (fault_at level.offset GroupNotClosed)
 
 -- the lexemes that are left, and the fault after them
 unfoldable pub read_on : State → List (ℕ × Lexeme) → Option EreFault → Result Tree EreFault

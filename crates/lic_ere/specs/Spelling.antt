@@ -97,7 +97,7 @@ pub data IsLexeme : Located → List Located → List Located → Lexeme → Typ
   ordinary : {x : Located} {rest : List Located} → AllByRecursion (λ s. x.1 ≢ s) signs
       → IsLexeme x rest rest (unit (letters_tree x.1))
 
--- characters are lexemes one after another, each with the place of its first character
+-- characters are lexemes one after another, each with the offset of its first character
 pub data AreLexemes : List Located → List (ℕ × Lexeme) → Type 0 where
   no_lexeme : AreLexemes [] []
   one_lexeme : {x : Located} {after rest : List Located} {l : Lexeme} {ls : List (ℕ × Lexeme)}

@@ -22,9 +22,9 @@ mutual
     one_more : Tree → Trees → Trees
 
 -- trees in a row
-abbrev pub row : List Tree → Trees
-row [] = no_tree
-row (t ∷ ts) = one_more t (row ts)
+abbrev pub sequence : List Tree → Trees
+sequence [] = no_tree
+sequence (t ∷ ts) = one_more t (sequence ts)
 
 -- a node, with the tree of each child in its place
 abbrev pub node_tree : Ere-F Tree → Tree
@@ -32,24 +32,24 @@ node_tree Ere-F.Empty = empty
 node_tree (Ere-F.Char c) = char c
 node_tree Ere-F.Any = any
 node_tree (Ere-F.Set class) = set class
-node_tree (Ere-F.Cat subs) = cat (row subs.items)
-node_tree (Ere-F.Alt subs) = alt (row subs.items)
+node_tree (Ere-F.Cat subs) = cat (sequence subs.items)
+node_tree (Ere-F.Alt subs) = alt (sequence subs.items)
 node_tree (Ere-F.Repeat body min max) = repeat body.value min max
 
 abbrev pub tree_of : Ere → Tree
 tree_of = fold-Ere Tree node_tree
 
--- the units of a row: one is by itself, and none is the empty word
+-- the units of a sequence: one is by itself, and none is the empty word
 abbrev pub units_tree : List Tree → Tree
 units_tree [] = empty
 units_tree (t ∷ []) = t
-units_tree (t ∷ u ∷ ts) = cat (row (t ∷ u ∷ ts))
+units_tree (t ∷ u ∷ ts) = cat (sequence (t ∷ u ∷ ts))
 
 -- alternatives, of which there is always one: one is by itself
 abbrev pub choice_tree : List Tree → Tree
 choice_tree [] = empty
 choice_tree (t ∷ []) = t
-choice_tree (t ∷ u ∷ ts) = alt (row (t ∷ u ∷ ts))
+choice_tree (t ∷ u ∷ ts) = alt (sequence (t ∷ u ∷ ts))
 
 -- the unit that an ordinary or an escaped character is: its letters in a row
 abbrev pub letters_tree : ℕ → Tree

@@ -14,7 +14,7 @@ use Rattle.lic_ere.specs.Reading as reading
 
 -- the characters that are left
 abbrev pub left : Remaining → List Located
-left r = located_from r.place (chars r.text.now)
+left r = located_from r.offset (chars r.text.now)
 
 -- what is read, and the characters after it
 abbrev pub seen : {A : Type 0} → A × Remaining → A × List Located
@@ -36,7 +36,7 @@ last_of (levels.Repeated unit) = reading.repeated (tree_of unit)
 abbrev pub level_of : Level → reading.Level
 level_of l =
     record {
-      place = l.place;
+      offset = l.offset;
       alternatives = map tree_of l.alternatives.items;
       before = map tree_of l.before.items;
       last = last_of l.last;

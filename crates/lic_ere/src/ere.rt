@@ -53,8 +53,8 @@ impl Ere {
     ghost use Rattle.lic_ere.specs.Trees.{tree_of, units_tree, choice_tree};
 
     /// Units in a row: a single one is the answer itself, and none is the empty word.
-    pub(crate) fn row(alloc: Global, mut units: Vec<Ere>) -> Result<Ere, AllocError>
-        ensures { IfOk result (λ row. tree_of row ≡ units_tree (map tree_of units.items)) }
+    pub(crate) fn sequence(alloc: Global, mut units: Vec<Ere>) -> Result<Ere, AllocError>
+        ensures { IfOk result (λ sequence. tree_of sequence ≡ units_tree (map tree_of units.items)) }
     {
         match units.len() {
             0 => Ok(Ere::Empty),

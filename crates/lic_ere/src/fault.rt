@@ -70,10 +70,10 @@ impl EreCause {
 
 /// Why a pattern was refused, and where: the first fault from left to right.
 #[derive(Clone, Copy, Debug, PartialEq, Eq, Error)]
-#[error("{} at {place}: {}", .cause.code(), .cause.text())]
+#[error("{} at {offset}: {}", .cause.code(), .cause.text())]
 pub struct EreFault {
     /// A byte of the pattern; 0 where memory ran out.
-    pub place: usize,
+    pub offset: usize,
     pub cause: EreCause,
 }
 
@@ -86,7 +86,7 @@ impl EreFault {
         ensures { result ≡ out_of_memory }
     {
         EreFault {
-            place: 0,
+            offset: 0,
             cause: EreCause::OutOfMemory,
         }
     }

@@ -15,5 +15,5 @@ pub fn letters(alloc: Global, character: char) -> Result<Ere, AllocError>
     for letter in spelling.as_slice() {
         units.push(Ere::Char(*letter))?;
     }
-    Ere::row(alloc, units)
+    Ere::sequence(alloc, units)
 }

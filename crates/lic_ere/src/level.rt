@@ -7,7 +7,7 @@ use crate::lexeme::bounds::Bounds;
 use std::alloc::{AllocError, Global};
 use std::mem;
 
-/// The last unit of a row.
+/// The last unit of a sequence.
 #[derive(Drop)]
 pub enum LastUnit {
     None,
@@ -21,7 +21,7 @@ pub enum LastUnit {
 #[derive(Drop)]
 pub struct Level {
     /// The byte at which it begins.
-    pub place: usize,
+    pub offset: usize,
     /// The alternatives before the last `|`.
     pub alternatives: Vec<Ere>,
     /// The units after that `|`, but for the last one.
@@ -36,11 +36,11 @@ impl Level {
     ghost use Rattle.lic_ere.specs.Views.{level_of};
 
     /// A level with nothing read.
-    pub fn new(alloc: Global, place: usize) -> Level
-        ensures { level_of result ≡ new_level place }
+    pub fn new(alloc: Global, offset: usize) -> Level
+        ensures { level_of result ≡ new_level offset }
     {
         Level {
-            place,
+            offset,
             alternatives: Vec::new(alloc),
             before: Vec::new(alloc),
             last: LastUnit::None,
@@ -58,15 +58,15 @@ impl Level {
         Ok(())
     }
 
-    /// A repetition sign at a place, with its bounds where they could be read.
+    /// A repetition sign at an offset, with its bounds where they could be read.
     pub fn repeat(
         &mut self,
         alloc: Global,
-        place: usize,
+        offset: usize,
         bounds: Option<Bounds>,
     ) -> Result<(), EreFault>
         ensures { Gives (λ _. level_of self.new) result
-            (with_sign place bounds (level_of self.old)) }
+            (with_sign offset bounds (level_of self.old)) }
     {
         let cause = match mem::replace(&mut self.last, LastUnit::None) {
             LastUnit::None => EreCause::NothingToRepeat,
@@ -80,11 +80,11 @@ impl Level {
                 EreCause::BadBound
             }
         };
-        Err(EreFault { place, cause })
+        Err(EreFault { offset, cause })
     }
 
     /// A `|`.
-    pub fn end_row(&mut self, alloc: Global) -> Result<(), AllocError>
+    pub fn end_sequence(&mut self, alloc: Global) -> Result<(), AllocError>
         ensures { OnOk result (level_of self.new ≡ with_alternative (level_of self.old)) }
     {
         let mut units = mem::replace(&mut self.before, Vec::new(alloc));
@@ -92,7 +92,7 @@ impl Level {
             LastUnit::None => {}
             LastUnit::Single(last) | LastUnit::Repeated(last) => units.push(last)?,
         }
-        self.alternatives.push(Ere::row(alloc, units)?)?;
+        self.alternatives.push(Ere::sequence(alloc, units)?)?;
         Ok(())
     }
 
@@ -101,7 +101,7 @@ impl Level {
         ensures { IfOk result (λ tree. tree_of tree ≡ level_tree (level_of self)) }
     {
         let mut level = self;
-        level.end_row(alloc)?;
+        level.end_sequence(alloc)?;
         Ere::choice(alloc, level.alternatives)
     }
 }

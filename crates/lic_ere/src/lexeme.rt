@@ -17,7 +17,7 @@ use crate::lexeme::brackets::bracket;
 use crate::remaining::Remaining;
 use std::alloc::Global;
 
-/// What is at one place of a pattern.
+/// What is at one offset of a pattern.
 #[derive(Drop)]
 pub enum Lexeme {
     /// A unit that is no group: `.`, a bracket, or a character.
@@ -35,45 +35,45 @@ pub enum Lexeme {
 }
 
 /// Whether a character is a `^` at the beginning or a `$` at the end.
-fn means_nothing(place: usize, character: char, rest: Remaining<'_>) -> bool
-    ensures { result ≡ means_nothing (place, character) (left rest.entry) }
+fn means_nothing(offset: usize, character: char, rest: Remaining<'_>) -> bool
+    ensures { result ≡ means_nothing (offset, character) (left rest.entry) }
 {
-    (character == '^' && place == 0) || (character == '$' && rest.is_empty())
+    (character == '^' && offset == 0) || (character == '$' && rest.is_empty())
 }
 
 /// A `^` or a `$`.
-fn anchor(place: usize, character: char, rest: Remaining<'_>) -> Result<Lexeme, EreFault>
+fn anchor(offset: usize, character: char, rest: Remaining<'_>) -> Result<Lexeme, EreFault>
     ensures { Gives (λ x. (lexeme_of x, 0)) result
-        (anchor_at (place, character) (left rest.entry)) }
+        (anchor_at (offset, character) (left rest.entry)) }
 {
-    if means_nothing(place, character, rest) {
+    if means_nothing(offset, character, rest) {
         Ok(Lexeme::Anchor)
     } else {
         Err(EreFault {
-            place,
+            offset,
             cause: EreCause::AnchorInside,
         })
     }
 }
 
-/// What a `\` at a place begins, and what follows it.
+/// What a `\` at an offset begins, and what follows it.
 fn escaped(
     alloc: Global,
-    place: usize,
+    offset: usize,
     rest: Remaining<'_>,
 ) -> Result<(Lexeme, Remaining<'_>), EreFault>
     ensures { Gives (λ x. (lexeme_of x.0, left x.1)) result
-        (map_ok (with_remaining (left rest.entry)) (escaped_at place (left rest.entry))) }
+        (map_ok (with_remaining (left rest.entry)) (escaped_at offset (left rest.entry))) }
 {
     let Some((next, after)) = rest.split_first() else {
         return Err(EreFault {
-            place,
+            offset,
             cause: EreCause::EndsInBackslash,
         });
     };
     if !next.1.is_ascii_punctuation() {
         return Err(EreFault {
-            place,
+            offset,
             cause: EreCause::UnknownEscape,
         });
     }
@@ -102,12 +102,12 @@ fn sign(min: u32, max: Option<u32>) -> Lexeme
 #[tactic(auto, unfolding(crate::specs::Lexemes::lexeme_at))]
 pub fn next_lexeme(
     alloc: Global,
-    place: usize,
+    offset: usize,
     character: char,
     rest: Remaining<'_>,
 ) -> Result<(Lexeme, Remaining<'_>), EreFault>
     ensures { Gives (λ x. (lexeme_of x.0, left x.1)) result
-        (map_ok (with_remaining (left rest.entry)) (lexeme_at (place, character) (left rest.entry))) }
+        (map_ok (with_remaining (left rest.entry)) (lexeme_at (offset, character) (left rest.entry))) }
 {
     match character {
         '.' => Ok((Lexeme::Unit(Ere::Any), rest)),
@@ -119,11 +119,11 @@ pub fn next_lexeme(
         ')' => Ok((Lexeme::Closing, rest)),
         '|' => Ok((Lexeme::Bar, rest)),
         '[' => {
-            let (class, rest) = bracket(alloc, place, rest)?;
+            let (class, rest) = bracket(alloc, offset, rest)?;
             Ok((Lexeme::Unit(Ere::Set(class)), rest))
         }
-        '\\' => escaped(alloc, place, rest),
-        '^' | '$' => Ok((anchor(place, character, rest)?, rest)),
+        '\\' => escaped(alloc, offset, rest),
+        '^' | '$' => Ok((anchor(offset, character, rest)?, rest)),
         _ => Ok((Lexeme::Unit(letters(alloc, character)?), rest)),
     }
 }

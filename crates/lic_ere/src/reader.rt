@@ -36,17 +36,17 @@ impl Reader {
         }
     }
 
-    /// A `(` at a place.
-    fn open(&mut self, alloc: Global, place: usize) -> Result<(), EreFault>
-        ensures { Gives (λ _. state_of self.new) result (open_group place (state_of self.old)) }
+    /// A `(` at an offset.
+    fn open(&mut self, alloc: Global, offset: usize) -> Result<(), EreFault>
+        ensures { Gives (λ _. state_of self.new) result (open_group offset (state_of self.old)) }
     {
         if self.outer.len() >= MAX_DEPTH {
             return Err(EreFault {
-                place,
+                offset,
                 cause: EreCause::TooDeep,
             });
         }
-        let outer = mem::replace(&mut self.level, Level::new(alloc, place));
+        let outer = mem::replace(&mut self.level, Level::new(alloc, offset));
         self.outer.push(outer)?;
         Ok(())
     }
@@ -63,18 +63,18 @@ impl Reader {
         self.level.push(unit)
     }
 
-    /// One more lexeme, which begins at a place.
+    /// One more lexeme, which begins at an offset.
     #[tactic(auto, unfolding(crate::specs::Reading::meet))]
-    pub fn meet(&mut self, alloc: Global, place: usize, lexeme: Lexeme) -> Result<(), EreFault>
+    pub fn meet(&mut self, alloc: Global, offset: usize, lexeme: Lexeme) -> Result<(), EreFault>
         ensures { Gives (λ _. state_of self.new) result
-            (meet place (lexeme_of lexeme) (state_of self.old)) }
+            (meet offset (lexeme_of lexeme) (state_of self.old)) }
     {
         match lexeme {
             Lexeme::Unit(unit) => self.level.push(unit)?,
-            Lexeme::Sign(bounds) => self.level.repeat(alloc, place, bounds)?,
-            Lexeme::Opening => self.open(alloc, place)?,
+            Lexeme::Sign(bounds) => self.level.repeat(alloc, offset, bounds)?,
+            Lexeme::Opening => self.open(alloc, offset)?,
             Lexeme::Closing => self.close(alloc)?,
-            Lexeme::Bar => self.level.end_row(alloc)?,
+            Lexeme::Bar => self.level.end_sequence(alloc)?,
             Lexeme::Anchor => {}
         }
         Ok(())
@@ -86,7 +86,7 @@ impl Reader {
     {
         if !self.outer.is_empty() {
             return Err(EreFault {
-                place: self.level.place,
+                offset: self.level.offset,
                 cause: EreCause::GroupNotClosed,
             });
         }

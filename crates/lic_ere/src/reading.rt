@@ -22,9 +22,9 @@ fn read_all(alloc: Global, all: Remaining<'_>) -> Result<Ere, EreFault>
     let mut reader = Reader::new(alloc);
     let mut rest = all;
     while let Some((first, after)) = rest.split_first() {
-        let (place, character) = first;
-        let (lexeme, following) = next_lexeme(alloc, place, character, after)?;
-        reader.meet(alloc, place, lexeme)?;
+        let (offset, character) = first;
+        let (lexeme, following) = next_lexeme(alloc, offset, character, after)?;
+        reader.meet(alloc, offset, lexeme)?;
         rest = following;
     }
     reader.finish(alloc)

@@ -6,10 +6,10 @@ ghost use Rattle.std.specs.Str.{is_utf8};
 #[derive(Clone, Copy)]
 pub struct Remaining<'a> {
     /// The byte of the pattern at which they begin.
-    place: usize,
+    offset: usize,
     text: &'a str,
     ghost utf8: { IsTrue (is_utf8 text.now) },
-    ghost fits: { place + length text.now < 2 ^ 64 },
+    ghost fits: { offset + length text.now < 2 ^ 64 },
 }
 
 impl<'a> Remaining<'a> {
@@ -21,12 +21,12 @@ impl<'a> Remaining<'a> {
         ensures { left result ≡ located pattern.now }
     {
         Remaining {
-            place: 0,
+            offset: 0,
             text: pattern,
         }
     }
 
-    /// The first character with its place, and those after it.
+    /// The first character with its offset, and those after it.
     pub fn split_first(self) -> Option<((usize, char), Remaining<'a>)>
         ensures some { IfSome result (λ x. left self.entry ≡ x.0 ∷ left x.1) }
         ensures none { IfNone result (length (left self.entry) ≡ 0) }
@@ -34,10 +34,10 @@ impl<'a> Remaining<'a> {
         let mut chars = self.text.chars();
         let character = chars.next()?;
         let rest = Remaining {
-            place: self.place + character.len_utf8(),
+            offset: self.offset + character.len_utf8(),
             text: chars.as_str(),
         };
-        Some(((self.place, character), rest))
+        Some(((self.offset, character), rest))
     }
 
     /// Whether no character is left.

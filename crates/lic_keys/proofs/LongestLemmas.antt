@@ -13,8 +13,8 @@ use Rattle.lic_markup.specs.declared.part.Part.{Part, Part-F, fold-roll-Part, fo
 use Rattle.lic_markup.specs.declared.part.Part as declared
 use Rattle.lic_markup.specs.declared.part.Part.TheVariants.{Text, rolls-Text}
 use Rattle.lic_markup.specs.Parts as nodes
-use Rattle.lic_markup.specs.Parts.{Node, part_node, part_of, row}
-use Rattle.lic_norm.specs.PieceTexts.{IsPieceText}
+use Rattle.lic_markup.specs.Parts.{Node, part_node, part_of, sequence}
+use Rattle.lic_pieces.specs.PieceTexts.{IsPieceText}
 use Rattle.lic_markup.specs.PartTexts.{HasPieceTexts, HavePieceTexts}
 use Rattle.lic_keys.specs.Texts.{AreEdges}
 use Rattle.lic_keys.specs.Required.{HasLetters, HasNoLetters, IsLongestText}
@@ -22,7 +22,7 @@ use Rattle.lic_keys.specs.declared.longest.LongestText.{LongestText}
 use Rattle.lic_keys.proofs.SameLetters.{letters-same}
 
 -- the texts of each of some parts are those of pieces
-pub texts-at : (parts : List Part) (i : ℕ) (d : Part) → i < length parts → HavePieceTexts (row (map part_of parts)) → HasPieceTexts (part_of (get_or parts i d))
+pub texts-at : (parts : List Part) (i : ℕ) (d : Part) → i < length parts → HavePieceTexts (sequence (map part_of parts)) → HasPieceTexts (part_of (get_or parts i d))
 texts-at [] i d below texts = absurd (omega arith)
 texts-at (p ∷ ps) zero d below texts = texts.0
 texts-at (p ∷ ps) (suc i) d below texts = texts-at ps i d (omega arith) texts.1
@@ -32,7 +32,7 @@ part_of-Text text = ap part_of (sym (rolls-Text text)) ∙ fold-roll-Part Node p
 
 -- a part that is a text is one of a piece
 pub text-piece : (parts : List Part) (i : ℕ) (p : Part) (text : String Global) → i < length parts → p ≡ get_or parts i p → p ≡ Text text →
-    HavePieceTexts (row (map part_of parts)) → IsPieceText (string_bytes text)
+    HavePieceTexts (sequence (map part_of parts)) → IsPieceText (string_bytes text)
 text-piece parts i p text inside is has pieces =
     let known : HasPieceTexts (nodes.letters (string_bytes text)) =
     subst HasPieceTexts (ap part_of (sym is ∙ has) ∙ part_of-Text text) (texts-at parts i p inside pieces) in

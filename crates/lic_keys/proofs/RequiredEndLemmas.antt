@@ -15,7 +15,7 @@ use Rattle.lic_markup.specs.Parts as nodes
 use Rattle.lic_markup.specs.Parts.{Node, part_of}
 use Rattle.lic_norm.specs.Tokens.{TokenValue}
 use Rattle.lic_norm.specs.Places.{place_end, texts_of}
-use Rattle.lic_norm.specs.PieceTexts.{IsPieceText}
+use Rattle.lic_pieces.specs.PieceTexts.{IsPieceText}
 use Rattle.lic_places.specs.Places.{AreTexts, IsAfterBlank, Occurs, is_blank_at, spelling_of}
 use Rattle.lic_places.specs.Reads.{Reads, Takes}
 use Rattle.lic_places.proofs.Reading.{Reads-cut, Reads-order}

@@ -1,7 +1,7 @@
 //! The longest text of a template.
 
 ghost use Rattle.std.specs.Prelude.{◌≡◌, length, map, MatchOption};
-ghost use Rattle.lic_markup.specs.Parts.{part_of, row};
+ghost use Rattle.lic_markup.specs.Parts.{part_of, sequence};
 ghost use Rattle.lic_markup.specs.PartTexts.{HavePieceTexts};
 ghost use Rattle.lic_keys.specs.Required.{HasNoLetters, IsLongestText};
 
@@ -17,7 +17,7 @@ pub struct LongestText<'t> {
 
 /// The longest text of a template outside optional parts, the first of these if several are as long; None if none has letters.
 pub fn longest_text(parts: &[Part]) -> Option<LongestText<'_>>
-    requires { HavePieceTexts (row (map part_of parts.now)) }
+    requires { HavePieceTexts (sequence (map part_of parts.now)) }
     ensures { MatchOption result (HasNoLetters parts.now)
         (λ text. IsLongestText parts.now text.number text.letters.now) }
 {

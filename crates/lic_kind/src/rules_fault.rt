@@ -58,7 +58,7 @@ impl<T: Drop> From<AllocFailed<T>> for RulesCause {
 
 /// The first fault of a file of line rules.
 #[derive(Clone, Copy, Debug, PartialEq, Eq, Error)]
-#[error("{}{}: {}", .cause.code(), Place(*.line), .cause.text())]
+#[error("{}{}: {}", .cause.code(), AtLine(*.line), .cause.text())]
 pub struct RulesFault {
     /// The line at fault, counted from 1; 0 for lack of memory.
     pub line: usize,
@@ -82,11 +82,11 @@ impl RulesCause {
     }
 }
 
-/// Where a fault is, if anywhere.
+/// The line of a fault, as it is written: nothing of line 0.
 #[derive(Clone, Copy)]
-struct Place(usize);
+struct AtLine(usize);
 
-impl fmt::Display for Place {
+impl fmt::Display for AtLine {
     fn fmt<W: fmt::Write>(&self, f: &mut fmt::Formatter<W>) -> fmt::Result {
         match self.0 {
             0 => Ok(()),

@@ -1,11 +1,11 @@
--- What a line end cuts: runs and first tokens of a text are those before it and those after it.
+-- What a line end cuts: streaks and first tokens of a text are those before it and those after it.
 use Rattle.std.proofs.Common.{◌≡◌, Bool, true, false, cond, List, [], ◌∷◌, ◌++◌, refl, ap, ◌∙◌}
 use Rattle.std.specs.List.{flat_map}
 use Rattle.std.proofs.lemmas.List.Concat.{flat_map-append}
 use Rattle.lic_trim.specs.Texts.{groups}
 use Rattle.lic_lines.specs.Cells.{Cell, Blank, Mark, Word}
 use Rattle.lic_kind.specs.LineRules.{LineRules}
-use Rattle.lic_lines.specs.Runs.{same_mark, same_family, without_separator, without_separators, joined, with_joined, runs_joined}
+use Rattle.lic_lines.specs.Streaks.{same_mark, same_family, without_separator, without_separators, joined, with_joined, streaks_joined}
 use Rattle.lic_lines.specs.Tokens.{both_words, token_of, tokens_from, first_tokens}
 use Rattle.lic_lines.proofs.GroupLemmas.{groups_alone}
 
@@ -53,7 +53,7 @@ joined-one Blank = refl
 joined-one (Mark s) = refl
 joined-one (Word s) = refl
 
--- what is no mark is in no run, and cuts the list
+-- what is no mark is in no streak, and cuts the list
 pub without_separators-at : (xs : List Cell) (x : Cell) (ys : List Cell) → is_mark x ≡ false
     → without_separators (xs ++ x ∷ ys) ≡ without_separators xs ++ x ∷ without_separators ys
 without_separators-at xs x ys no_mark =
@@ -67,17 +67,17 @@ with_joined-at xs x ys no_mark =
     ∙ flat_map-append joined (groups same_family xs) ((x ∷ []) ∷ groups same_family ys)
     ∙ ap (λ l. with_joined xs ++ (l ++ with_joined ys)) (joined-one x)
 
-pub runs_joined-at : (rules : LineRules) (xs : List Cell) (x : Cell) (ys : List Cell) → is_mark x ≡ false
-    → runs_joined rules (xs ++ x ∷ ys) ≡ runs_joined rules xs ++ x ∷ runs_joined rules ys
-runs_joined-at rules xs x ys no_mark = at rules.separators
+pub streaks_joined-at : (rules : LineRules) (xs : List Cell) (x : Cell) (ys : List Cell) → is_mark x ≡ false
+    → streaks_joined rules (xs ++ x ∷ ys) ≡ streaks_joined rules xs ++ x ∷ streaks_joined rules ys
+streaks_joined-at rules xs x ys no_mark = at rules.separators
   where
     at : (b : Bool) → with_joined (cond b (without_separators (xs ++ x ∷ ys)) (xs ++ x ∷ ys))
         ≡ with_joined (cond b (without_separators xs) xs) ++ x ∷ with_joined (cond b (without_separators ys) ys)
     at true = ap with_joined (without_separators-at xs x ys no_mark) ∙ with_joined-at (without_separators xs) x (without_separators ys) no_mark
     at false = with_joined-at xs x ys no_mark
 
-pub runs_joined-gap : (rules : LineRules) (xs ys : List Cell) → runs_joined rules (xs ++ Blank ∷ ys) ≡ runs_joined rules xs ++ Blank ∷ runs_joined rules ys
-runs_joined-gap rules xs ys = runs_joined-at rules xs Blank ys refl
+pub streaks_joined-gap : (rules : LineRules) (xs ys : List Cell) → streaks_joined rules (xs ++ Blank ∷ ys) ≡ streaks_joined rules xs ++ Blank ∷ streaks_joined rules ys
+streaks_joined-gap rules xs ys = streaks_joined-at rules xs Blank ys refl
 
 no_letter_before : (c : Cell) → both_words c Blank ≡ false
 no_letter_before Blank = refl
@@ -97,8 +97,8 @@ first_tokens-gap xs ys =
     ap (tokens_from true) (groups_alone both_words xs Blank ys (λ y. refl) no_letter_before)
     ∙ tokens_from-gap true (groups both_words xs) (groups both_words ys)
 
-pub no_runs : (rules : LineRules) → runs_joined rules [] ≡ []
-no_runs rules = at rules.separators
+pub no_streaks : (rules : LineRules) → streaks_joined rules [] ≡ []
+no_streaks rules = at rules.separators
   where
     at : (b : Bool) → with_joined (cond b (without_separators []) []) ≡ []
     at true = refl

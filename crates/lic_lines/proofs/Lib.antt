@@ -1,7 +1,7 @@
 pub mod GroupLemmas
 pub mod Gaps
 pub mod Seams
-pub mod KindRows
+pub mod KindSequences
 pub mod TokenLemmas
 pub mod PlainSigns
 pub mod TextStarts

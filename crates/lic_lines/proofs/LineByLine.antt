@@ -7,18 +7,18 @@ use Rattle.std.proofs.lemmas.Bool.{cases_Bool, cases_lt, cond-true, cond-false, 
 use Rattle.std.proofs.lemmas.List.{append-nil, map-append, length-map, length-take, drop_at, drop-append-le, drop_all}
 use Rattle.std.proofs.lemmas.List.Concat.{flat_map-append}
 use Rattle.lic_kind.specs.Kinds.{is_dropped}
-use Rattle.lic_trim.specs.Texts.{is_row, longest_end, cut_after, groups}
+use Rattle.lic_trim.specs.Texts.{is_sequence, longest_end, cut_after, groups}
 use Rattle.lic_trim.specs.declared.source.SourceChar.{SourceChar}
 use Rattle.lic_trim.specs.Sources.{chars_of, lines_of, without_dropped}
 use Rattle.lic_kind.specs.LineRules.{LineRules}
 use Rattle.lic_trim.specs.declared.line_part.LinePart.{LinePart}
 use Rattle.lic_trim.specs.Lines.{whole_line, is_tail_piece, item_length, is_item_form, lets_item, lead_length, item_after_lead, tail_length}
 use Rattle.lic_lines.specs.Cells.{Cell, Blank, Mark, Word, blank_for, cells_of_cut, cell_of, line_cells, cells_of}
-use Rattle.lic_lines.specs.Runs.{runs_joined}
+use Rattle.lic_lines.specs.Streaks.{streaks_joined}
 use Rattle.lic_lines.specs.Tokens.{Token, both_words, tokens_from, first_tokens, is_text, is_sign_in_parentheses, sign_from, as_sign, single_signs, tokens_of_cells, line_tokens, text_tokens}
-use Rattle.lic_lines.proofs.Gaps.{no_runs, runs_joined-gap, first_tokens-gap}
+use Rattle.lic_lines.proofs.Gaps.{no_streaks, streaks_joined-gap, first_tokens-gap}
 use Rattle.lic_trim.proofs.ItemLemmas.{char_of, item_none, few_behind}
-use Rattle.lic_trim.proofs.TailRows.{greatest_ge}
+use Rattle.lic_trim.proofs.TailSequences.{greatest_ge}
 
 -- ---- the lines
 module _ {A : Type 0} (ends : A → Bool) where
@@ -119,14 +119,14 @@ item_within rules xs c ys white =
     (cases_Bool test)
 
 -- what is left of a text that ends in white space has that as a tail
-tail_some : (rules : LineRules) (text : List ℕ) (c : ℕ) → is_whitespace c ≡ true → 0 < longest_end (is_row (is_tail_piece rules)) (text ++ c ∷ [])
+tail_some : (rules : LineRules) (text : List ℕ) (c : ℕ) → is_whitespace c ≡ true → 0 < longest_end (is_sequence (is_tail_piece rules)) (text ++ c ∷ [])
 tail_some rules text c white =
     let whole = text ++ c ∷ [] in
     let long : length whole ≡ length text + 1 = length-append text (c ∷ []) in
     let place : length whole - 1 ≡ length text = omega arith in
     let last : drop (length whole - 1) whole ≡ c ∷ [] = ap (λ n. drop n whole) place ∙ drop_at text (c ∷ []) (length text) refl in
-    greatest_ge (λ n. is_row (is_tail_piece rules) (drop (length whole - n) whole)) (length whole) 1 (omega arith)
-    (subst (λ l. is_row (is_tail_piece rules) l ≡ true) (sym last) (rw white refl))
+    greatest_ge (λ n. is_sequence (is_tail_piece rules) (drop (length whole - n) whole)) (length whole) 1 (omega arith)
+    (subst (λ l. is_sequence (is_tail_piece rules) l ≡ true) (sym last) (rw white refl))
 
 blank_some : (n : ℕ) → 0 < n → blank_for n ≡ Blank ∷ []
 blank_some zero h = absurd (omega arith)
@@ -192,8 +192,8 @@ module _ (rules : LineRules) (part : LinePart) where
       ap (drop item) rest ∙ drop-append-le item (drop lead before) (nl.char ∷ []) room in
       let end : 0 < tail = subst (λ n. 0 < n)
       (sym (cond-true part.has_end
-      (longest_end (is_row (is_tail_piece rules)) (drop item (drop lead text))) 0 has_end))
-      (subst (λ l. 0 < longest_end (is_row (is_tail_piece rules)) l) (sym left)
+      (longest_end (is_sequence (is_tail_piece rules)) (drop item (drop lead text))) 0 has_end))
+      (subst (λ l. 0 < longest_end (is_sequence (is_tail_piece rules)) l) (sym left)
       (tail_some rules (drop item (drop lead before)) nl.char white)) in (
         _,
         ap (λ b. blank_for lead ++ blank_for item
@@ -254,19 +254,19 @@ cells_of-line rules front nl rest is_end =
 
 -- The first tokens of a text up to a line end, and those after it.
 pub first_tokens-line : (rules : LineRules) (front : List SourceChar) (nl : SourceChar) (rest : List SourceChar)
-    → nl.char ≡ 0x0A → first_tokens (runs_joined rules (cells_of rules (front ++ nl ∷ rest)))
-    ≡ first_tokens (runs_joined rules (cells_of rules (front ++ nl ∷ [])))
-    ++ first_tokens (runs_joined rules (cells_of rules rest))
+    → nl.char ≡ 0x0A → first_tokens (streaks_joined rules (cells_of rules (front ++ nl ∷ rest)))
+    ≡ first_tokens (streaks_joined rules (cells_of rules (front ++ nl ∷ [])))
+    ++ first_tokens (streaks_joined rules (cells_of rules rest))
 first_tokens-line rules front nl rest is_end =
     let cells = cells_of-line rules front nl rest is_end in
-    let tokens = λ (l : List Cell). first_tokens (runs_joined rules l) in
+    let tokens = λ (l : List Cell). first_tokens (streaks_joined rules l) in
     ap tokens cells.2
-    ∙ ap first_tokens (runs_joined-gap rules cells.0 (cells_of rules rest))
-    ∙ first_tokens-gap (runs_joined rules cells.0) (runs_joined rules (cells_of rules rest))
+    ∙ ap first_tokens (streaks_joined-gap rules cells.0 (cells_of rules rest))
+    ∙ first_tokens-gap (streaks_joined rules cells.0) (streaks_joined rules (cells_of rules rest))
     ∙ ap (λ l. l ++ tokens (cells_of rules rest))
-    (sym (ap tokens cells.1 ∙ ap first_tokens (runs_joined-gap rules cells.0 [])
-    ∙ first_tokens-gap (runs_joined rules cells.0) (runs_joined rules [])
-    ∙ ap (λ l. first_tokens (runs_joined rules cells.0) ++ first_tokens l) (no_runs rules) ∙ append-nil _))
+    (sym (ap tokens cells.1 ∙ ap first_tokens (streaks_joined-gap rules cells.0 [])
+    ∙ first_tokens-gap (streaks_joined rules cells.0) (streaks_joined rules [])
+    ∙ ap (λ l. first_tokens (streaks_joined rules cells.0) ++ first_tokens l) (no_streaks rules) ∙ append-nil _))
 
 -- ---- tokens, signs too
 
@@ -318,13 +318,13 @@ single_signs-append (a ∷ b ∷ c ∷ xs) ys h =
 pub tokens_of_cells-blank : (rules : LineRules) (xs ys : List Cell)
     → tokens_of_cells rules (xs ++ Blank ∷ ys) ≡ tokens_of_cells rules (xs ++ Blank ∷ []) ++ tokens_of_cells rules ys
 tokens_of_cells-blank rules xs ys =
-    let front = first_tokens (runs_joined rules xs) in
-    let rest = first_tokens (runs_joined rules ys) in
-    let alone : first_tokens (runs_joined rules (xs ++ Blank ∷ [])) ≡ front =
-    ap first_tokens (runs_joined-gap rules xs []) ∙ first_tokens-gap (runs_joined rules xs) (runs_joined rules [])
-    ∙ ap (λ l. front ++ first_tokens l) (no_runs rules) ∙ append-nil front in
-    ap single_signs (ap first_tokens (runs_joined-gap rules xs ys) ∙ first_tokens-gap (runs_joined rules xs) (runs_joined rules ys))
-    ∙ single_signs-append front rest (begins_after_blank (groups both_words (runs_joined rules ys)))
+    let front = first_tokens (streaks_joined rules xs) in
+    let rest = first_tokens (streaks_joined rules ys) in
+    let alone : first_tokens (streaks_joined rules (xs ++ Blank ∷ [])) ≡ front =
+    ap first_tokens (streaks_joined-gap rules xs []) ∙ first_tokens-gap (streaks_joined rules xs) (streaks_joined rules [])
+    ∙ ap (λ l. front ++ first_tokens l) (no_streaks rules) ∙ append-nil front in
+    ap single_signs (ap first_tokens (streaks_joined-gap rules xs ys) ∙ first_tokens-gap (streaks_joined rules xs) (streaks_joined rules ys))
+    ∙ single_signs-append front rest (begins_after_blank (groups both_words (streaks_joined rules ys)))
     ∙ ap (λ l. single_signs l ++ single_signs rest) (sym alone)
 
 -- The tokens of a text up to a line end, and those after it.
@@ -340,7 +340,7 @@ text_tokens-line rules front nl rest is_end =
 lines_tokens : (rules : LineRules) (lines : List (List SourceChar)) → AllButLastEnd (λ s. s.char == 0x0A) lines
     → tokens_of_cells rules (flat_map (line_cells rules whole_line) lines)
     ≡ flat_map (line_tokens rules whole_line) lines
-lines_tokens rules [] h = ap (λ l. single_signs (first_tokens l)) (no_runs rules)
+lines_tokens rules [] h = ap (λ l. single_signs (first_tokens l)) (no_streaks rules)
 lines_tokens rules (line ∷ []) h =
     ap (tokens_of_cells rules) (append-nil (line_cells rules whole_line line))
     ∙ sym (append-nil (line_tokens rules whole_line line))

@@ -9,10 +9,10 @@ use Rattle.lic_trim.specs.Texts.{groups}
 use Rattle.lic_trim.specs.declared.source.SourceChar.{SourceChar}
 use Rattle.lic_kind.specs.LineRules.{LineRules}
 use Rattle.lic_lines.specs.Cells.{Mark, Word, cell_of}
-use Rattle.lic_lines.specs.Runs.{may_join, runs_joined, without_separators, with_joined}
+use Rattle.lic_lines.specs.Streaks.{may_join, streaks_joined, without_separators, with_joined}
 use Rattle.lic_lines.specs.TextStarts.{text_token}
 use Rattle.lic_lines.specs.Tokens.{Token, both_words, blank_after, letters_of, is_text, single_signs, text_tokens_after, tokens_after, tokens_from}
-use Rattle.lic_lines.proofs.KindRows.{cell_of-Mark, words_row, marks_row, blank_front}
+use Rattle.lic_lines.proofs.KindSequences.{cell_of-Mark, words_sequence, marks_sequence, blank_front}
 use Rattle.lic_lines.proofs.PlainSigns.{plain_first}
 use Rattle.lic_lines.proofs.TokenLemmas.{word_is_token}
 
@@ -23,7 +23,7 @@ pub front_blank : (rules : LineRules) (after_blank : Bool) (text : List SourceCh
 front_blank rules after_blank [] d some no_word no_mark = absurd (omega arith)
 front_blank rules after_blank (s ∷ text) d some no_word no_mark = ap single_signs (blank_front rules after_blank s text no_word no_mark)
 
--- the row of word characters, where it is no sign and begins none
+-- the sequence of word characters, where it is no sign and begins none
 pub front_word : (rules : LineRules) (after_blank : Bool) (text : List SourceChar) (n : ℕ) (letters : List ℕ) (d : SourceChar) → 0 < n → n ≤ length text
     → ((i : ℕ) (d : SourceChar) → i < n → kind_of (get_or text i d).char ≡ kind.Word)
     → ((d : SourceChar) → n < length text → kind_of (get_or text n d).char ≢ kind.Word)
@@ -42,9 +42,9 @@ front_word rules after_blank text n letters d some within words stop is no_paren
     ∙ ap single_signs
     (ap₂ (λ (a b : SourceChar). let u : Token = record { text = letters; start = a.start; end = b.end; after_blank = after_blank } in u ∷ rest) (sym first) (sym last)
     ∙ ap (λ l. l ++ rest) (word_is_token after_blank word d letters (omega arith) is)
-    ∙ words_row rules after_blank text n within some words stop)
+    ∙ words_sequence rules after_blank text n within some words stop)
 
-one_mark : (rules : LineRules) (s : SourceChar) → runs_joined rules (Mark s ∷ []) ≡ Mark s ∷ []
+one_mark : (rules : LineRules) (s : SourceChar) → streaks_joined rules (Mark s ∷ []) ≡ Mark s ∷ []
 one_mark rules s = at rules.separators
   where
     at : (b : Bool) → with_joined (cond b (without_separators (Mark s ∷ [])) (Mark s ∷ [])) ≡ Mark s ∷ []
@@ -63,14 +63,14 @@ front_mark rules after_blank (s ∷ behind) letters d some mark alone is no_pare
     let text = s ∷ behind in
     let t = text_token after_blank 1 letters text d in
     let rest = tokens_after rules false behind in
-    let runs : runs_joined rules (map cell_of (s ∷ [])) ≡ Mark s ∷ [] = ap (λ c. runs_joined rules (c ∷ [])) (cell_of-Mark s mark) ∙ one_mark rules s in
+    let streaks : streaks_joined rules (map cell_of (s ∷ [])) ≡ Mark s ∷ [] = ap (λ c. streaks_joined rules (c ∷ [])) (cell_of-Mark s mark) ∙ one_mark rules s in
     let spelled : letters ≡ encode_utf8_all (letters_of (Mark s ∷ [])) = is ∙ ap encode_utf8_all (sym (append-nil (spell s.char))) in
     sym (plain_first t rest no_parenthesis
     (cond-false (is_text (encode_utf8_all (0xA9 ∷ [])) t) (record t { text = codes "copyright" }) t no_sign))
     ∙ ap single_signs
     (ap (λ l. let u : Token = record { text = l; start = s.start; end = s.end; after_blank = after_blank } in u ∷ rest) spelled
-    ∙ sym (ap (λ l. tokens_from after_blank (groups both_words l) ++ tokens_after rules (blank_after after_blank (groups both_words l)) behind) runs)
-    ∙ marks_row rules after_blank text 1
+    ∙ sym (ap (λ l. tokens_from after_blank (groups both_words l) ++ tokens_after rules (blank_after after_blank (groups both_words l)) behind) streaks)
+    ∙ marks_sequence rules after_blank text 1
     (omega arith) (omega arith)
     (λ i e lt. let here : i ≡ 0 = omega arith in ap (λ k. kind_of (get_or text k e).char) here ∙ mark)
     alone)

@@ -12,10 +12,10 @@ use Rattle.lic_kind.specs.LineRules.{LineRules}
 use Rattle.lic_trim.specs.Texts.{groups}
 use Rattle.lic_trim.specs.declared.cut.LineCut.{LineCut}
 use Rattle.lic_lines.specs.Cells.{Cell, Blank, Word, cell_of, blank_for, left_of, cells_of_cut}
-use Rattle.lic_lines.specs.Runs.{end_after, runs_joined}
+use Rattle.lic_lines.specs.Streaks.{end_after, streaks_joined}
 use Rattle.lic_lines.specs.Tokens.{Token, both_words, tokens_after, tokens_from, cell_letters, letters_of, first_tokens, stretch_tokens, tokens_of_cells, is_sign_in_parentheses, sign_from, as_sign, single_signs, token_in, tokens_in}
 use Rattle.lic_lines.specs.declared.tokens.FirstToken.{FirstToken}
-use Rattle.lic_lines.proofs.Gaps.{no_runs, runs_joined-gap, first_tokens-gap}
+use Rattle.lic_lines.proofs.Gaps.{no_streaks, streaks_joined-gap, first_tokens-gap}
 
 encode_append : (cs ds : List ℕ) → encode_utf8_all (cs ++ ds) ≡ encode_utf8_all cs ++ encode_utf8_all ds
 encode_append [] ds = refl
@@ -68,18 +68,18 @@ word_is_token after_blank (s ∷ word) d text some is =
 
 -- blanks for what was taken give no token
 tokens_of_blank : (rules : LineRules) (n : ℕ) (cells : List Cell)
-    → first_tokens (runs_joined rules (blank_for n ++ cells)) ≡ first_tokens (runs_joined rules cells)
+    → first_tokens (streaks_joined rules (blank_for n ++ cells)) ≡ first_tokens (streaks_joined rules cells)
 tokens_of_blank rules zero cells = refl
 tokens_of_blank rules (suc n) cells =
-    ap first_tokens (runs_joined-gap rules [] cells) ∙ first_tokens-gap (runs_joined rules []) (runs_joined rules cells)
-    ∙ ap (λ l. first_tokens l ++ first_tokens (runs_joined rules cells)) (no_runs rules)
+    ap first_tokens (streaks_joined-gap rules [] cells) ∙ first_tokens-gap (streaks_joined rules []) (streaks_joined rules cells)
+    ∙ ap (λ l. first_tokens l ++ first_tokens (streaks_joined rules cells)) (no_streaks rules)
 
 tokens_before_blank : (rules : LineRules) (n : ℕ) (cells : List Cell)
-    → first_tokens (runs_joined rules (cells ++ blank_for n)) ≡ first_tokens (runs_joined rules cells)
-tokens_before_blank rules zero cells = ap (λ l. first_tokens (runs_joined rules l)) (append-nil cells)
+    → first_tokens (streaks_joined rules (cells ++ blank_for n)) ≡ first_tokens (streaks_joined rules cells)
+tokens_before_blank rules zero cells = ap (λ l. first_tokens (streaks_joined rules l)) (append-nil cells)
 tokens_before_blank rules (suc n) cells =
-    ap first_tokens (runs_joined-gap rules cells []) ∙ first_tokens-gap (runs_joined rules cells) (runs_joined rules [])
-    ∙ ap (λ l. first_tokens (runs_joined rules cells) ++ first_tokens l) (no_runs rules) ∙ append-nil (first_tokens (runs_joined rules cells))
+    ap first_tokens (streaks_joined-gap rules cells []) ∙ first_tokens-gap (streaks_joined rules cells) (streaks_joined rules [])
+    ∙ ap (λ l. first_tokens (streaks_joined rules cells) ++ first_tokens l) (no_streaks rules) ∙ append-nil (first_tokens (streaks_joined rules cells))
 
 pub tokens_of_cut : (rules : LineRules) (cut : LineCut) (line : List SourceChar)
     → tokens_of_cells rules (cells_of_cut cut line) ≡ single_signs (stretch_tokens rules (left_of cut line))
@@ -87,7 +87,7 @@ tokens_of_cut rules cut line =
     let cells = map cell_of (left_of cut line) in
     ap single_signs
     (tokens_before_blank rules cut.tail ((blank_for cut.lead ++ blank_for cut.item) ++ cells)
-    ∙ ap (λ l. first_tokens (runs_joined rules l)) (append_assoc (blank_for cut.lead) (blank_for cut.item) cells)
+    ∙ ap (λ l. first_tokens (streaks_joined rules l)) (append_assoc (blank_for cut.lead) (blank_for cut.item) cells)
     ∙ tokens_of_blank rules cut.lead (blank_for cut.item ++ cells)
     ∙ tokens_of_blank rules cut.item cells)
 
@@ -235,4 +235,4 @@ module _ (xs : List FirstToken) (kept at : ℕ) (order : kept ≤ at) (within : 
 
 -- no characters have no tokens
 pub no_tokens_after : (rules : LineRules) (after_blank : Bool) → tokens_after rules after_blank [] ≡ []
-no_tokens_after rules after_blank = ap (λ l. tokens_from after_blank (groups both_words l)) (no_runs rules)
+no_tokens_after rules after_blank = ap (λ l. tokens_from after_blank (groups both_words l)) (no_streaks rules)

@@ -1,5 +1,5 @@
 pub mod Cells
-pub mod Runs
+pub mod Streaks
 pub mod SmallStrings
 pub mod Tokens
 pub mod Groupings

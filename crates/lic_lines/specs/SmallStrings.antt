@@ -1,8 +1,8 @@
 -- The bytes of a string, wherever they lie.
 use Rattle.std.specs.Prelude.{ℕ, List, string_bytes}
-use Rattle.lic_lines.specs.declared.small_string.Place.{Place}
-use Rattle.lic_lines.specs.declared.small_string.Place.TheVariants.{Here, Apart}
+use Rattle.lic_lines.specs.declared.small_string.Storage.{Storage}
+use Rattle.lic_lines.specs.declared.small_string.Storage.TheVariants.{Here, Apart}
 
-abbrev pub bytes_at : Place → List ℕ
-bytes_at (Here text) = text.bytes
-bytes_at (Apart text) = string_bytes text
+abbrev pub bytes_in : Storage → List ℕ
+bytes_in (Here text) = text.bytes
+bytes_in (Apart text) = string_bytes text

@@ -7,8 +7,8 @@ use Rattle.lic_trim.specs.declared.source.SourceChar.{SourceChar}
 use Rattle.lic_kind.specs.LineRules.{LineRules}
 use Rattle.lic_trim.specs.declared.line_part.LinePart.{LinePart}
 use Rattle.lic_lines.specs.Cells.{Cell, Blank, Mark, Word, cell_of, line_cells, cells_of}
-use Rattle.lic_lines.specs.Runs.{end_after, runs_joined}
-use Rattle.lic_lines.specs.SmallStrings.{bytes_at}
+use Rattle.lic_lines.specs.Streaks.{end_after, streaks_joined}
+use Rattle.lic_lines.specs.SmallStrings.{bytes_in}
 use Rattle.lic_lines.specs.declared.small_string.SmallString.{SmallString}
 use Rattle.lic_lines.specs.declared.tokens.FirstToken.{FirstToken}
 
@@ -60,7 +60,7 @@ blank_after after_blank ((Blank ∷ cells) ∷ groups) = blank_after true groups
 blank_after after_blank ((Mark s ∷ cells) ∷ groups) = blank_after false groups
 blank_after after_blank ((Word s ∷ cells) ∷ groups) = blank_after false groups
 
--- each longest run of word characters, and each mark
+-- each longest streak of word characters, and each mark
 abbrev pub first_tokens : List Cell → List Token
 first_tokens cells = tokens_from true (groups both_words cells)
 
@@ -93,7 +93,7 @@ single_signs (a ∷ b ∷ c ∷ ts) =
 
 -- the tokens of these cells
 abbrev pub tokens_of_cells : LineRules → List Cell → List Token
-tokens_of_cells rules cells = single_signs (first_tokens (runs_joined rules cells))
+tokens_of_cells rules cells = single_signs (first_tokens (streaks_joined rules cells))
 
 -- the tokens of a line that has no dropped characters
 abbrev pub line_tokens : LineRules → LinePart → List SourceChar → List Token
@@ -105,11 +105,11 @@ text_tokens rules text = tokens_of_cells rules (cells_of rules text)
 
 -- the first tokens of characters of which nothing is taken, where a blank comes before them or does not
 abbrev pub tokens_after : LineRules → Bool → List SourceChar → List Token
-tokens_after rules after_blank text = tokens_from after_blank (groups both_words (runs_joined rules (map cell_of text)))
+tokens_after rules after_blank text = tokens_from after_blank (groups both_words (streaks_joined rules (map cell_of text)))
 
 -- the first tokens of characters of which nothing is taken
 abbrev pub stretch_tokens : LineRules → List SourceChar → List Token
-stretch_tokens rules text = first_tokens (runs_joined rules (map cell_of text))
+stretch_tokens rules text = first_tokens (streaks_joined rules (map cell_of text))
 
 -- and with each copyright sign by itself
 abbrev pub text_tokens_after : LineRules → Bool → List SourceChar → List Token
@@ -117,7 +117,7 @@ text_tokens_after rules after_blank text = single_signs (tokens_after rules afte
 
 -- the bytes of a string
 abbrev pub small_bytes : SmallString → List ℕ
-small_bytes s = bytes_at s.place
+small_bytes s = bytes_in s.storage
 
 -- the token that a value of the code holds
 abbrev pub token_in : FirstToken → Token

@@ -1,14 +1,14 @@
-//! From the source characters of one line to its first tokens: runs of marks in what the line rules
+//! From the source characters of one line to its first tokens: streaks of marks in what the line rules
 //! leave, tokens with their letters, and single copyright signs.
 #![tactic(auto)]
 
 mod buffers;
 mod cell;
 mod line;
-mod mark_rows;
-mod runs;
+mod mark_sequences;
 mod signs;
 mod small_string;
+mod streaks;
 mod text;
 mod text_start;
 mod tokens;

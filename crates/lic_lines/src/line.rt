@@ -2,13 +2,13 @@
 ghost use Rattle.std.specs.Prelude.{◌≡◌, ◌++◌, true, map, IfOk, OnOk};
 ghost use Rattle.lic_kind.specs.LineRules.{rules_of};
 ghost use Rattle.lic_lines.specs.Cells.{cell_of, blank_for, line_cells};
-ghost use Rattle.lic_lines.specs.Runs.{runs_joined};
+ghost use Rattle.lic_lines.specs.Streaks.{streaks_joined};
 ghost use Rattle.lic_lines.specs.Tokens.{line_tokens, text_tokens_after, tokens_in};
 
 use crate::buffers::Buffers;
 use crate::cell::Cell;
-use crate::runs::Runs;
 use crate::signs::join_single_signs;
+use crate::streaks::Streaks;
 use crate::text::push_text;
 use crate::tokens::FirstToken;
 use lic_kind::{Kind, Rules, kind_of};
@@ -46,7 +46,7 @@ fn push_blank_for(cells: &mut Vec<Cell>, length: usize) -> Result<(), AllocError
     Ok(())
 }
 
-/// What a line leaves after its runs of marks are joined: the blanks, marks and word characters that its tokens
+/// What a line leaves after its streaks of marks are joined: the blanks, marks and word characters that its tokens
 /// are made of, with one blank for each of lead, item and tail that is not empty. Dropped characters are taken
 /// out of the line already.
 ///
@@ -58,7 +58,7 @@ pub fn cells_of_line(
     line: &[SourceChar],
 ) -> Result<Vec<Cell>, AllocError>
     ensures { IfOk result (λ cells. cells.items
-        ≡ runs_joined (rules_of rules.now) (line_cells (rules_of rules.now) part line.now)) }
+        ≡ streaks_joined (rules_of rules.now) (line_cells (rules_of rules.now) part line.now)) }
 {
     let cut = cut_line(alloc, rules, part, line)?;
     let left = &line[cut.lead + cut.item..line.len() - cut.tail];
@@ -67,8 +67,8 @@ pub fn cells_of_line(
     push_blank_for(&mut cells, cut.item)?;
     push_cells(&mut cells, left)?;
     push_blank_for(&mut cells, cut.tail)?;
-    let mut runs = Runs::new(alloc);
-    let joined = runs.join(rules, &cells)?;
+    let mut streaks = Streaks::new(alloc);
+    let joined = streaks.join(rules, &cells)?;
     Vec::from_slice(alloc, joined)
 }
 
@@ -89,7 +89,7 @@ pub fn left_of_line<'a>(
 }
 
 /// Adds the tokens of one line, by this project's profile of the matching guidelines of SPDX 2.3, Annex B: without
-/// its lead, item and tail, its separators taken as blanks, each run of quotes and of dashes as one, and each
+/// its lead, item and tail, its separators taken as blanks, each streak of quotes and of dashes as one, and each
 /// copyright sign by itself as the token `copyright`. Dropped characters are taken out of the line already; spans
 /// are in bytes. What a line before or after this one holds has no effect, nor what the buffers hold.
 ///

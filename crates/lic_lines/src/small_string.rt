@@ -1,7 +1,7 @@
 //! Strings that ask for memory only where they are long.
 ghost use Rattle.std.specs.Prelude.{◌≡◌, ◌≤◌, IfOk, length};
 ghost use Rattle.std.specs.Str.{IsUtf8};
-ghost use Rattle.lic_lines.specs.SmallStrings.{bytes_at};
+ghost use Rattle.lic_lines.specs.SmallStrings.{bytes_in};
 
 use arrayvec::ArrayString;
 use std::alloc::{AllocError, Global};
@@ -9,9 +9,9 @@ use std::alloc::{AllocError, Global};
 /// How many bytes of a string lie in the value itself at most.
 const MOST_HERE: usize = 24;
 
-/// Where the bytes of a string lie.
+/// Where the bytes of a string are kept.
 #[derive(Drop)]
-enum Place {
+enum Storage {
     /// In the value itself.
     Here(ArrayString<MOST_HERE>),
     Apart(String),
@@ -20,8 +20,8 @@ enum Place {
 /// A string of which up to 24 bytes lie in the value itself.
 #[derive(Drop)]
 pub struct SmallString {
-    place: Place,
-    ghost utf8: { ∥ IsUtf8 (bytes_at place) ∥₁ },
+    storage: Storage,
+    ghost utf8: { ∥ IsUtf8 (bytes_in storage) ∥₁ },
 }
 
 impl SmallString {
@@ -35,7 +35,7 @@ impl SmallString {
         let mut here = ArrayString::new();
         here.push_str(text);
         SmallString {
-            place: Place::Here(here),
+            storage: Storage::Here(here),
         }
     }
 
@@ -47,7 +47,7 @@ impl SmallString {
             return Ok(SmallString::short(text));
         }
         Ok(SmallString {
-            place: Place::Apart(String::from_str(alloc, text)?),
+            storage: Storage::Apart(String::from_str(alloc, text)?),
         })
     }
 
@@ -55,9 +55,9 @@ impl SmallString {
     pub fn as_str(&self) -> &str
         ensures { result.now ≡ small_bytes self.now }
     {
-        match &self.place {
-            Place::Here(text) => text.as_str(),
-            Place::Apart(text) => text.as_str(),
+        match &self.storage {
+            Storage::Here(text) => text.as_str(),
+            Storage::Apart(text) => text.as_str(),
         }
     }
 }

@@ -4,13 +4,13 @@ ghost use Rattle.lic_kind.specs.Kinds.{kind_of};
 ghost use Rattle.lic_trim.specs.Texts.{groups};
 ghost use Rattle.lic_kind.specs.LineRules.{rules_of};
 ghost use Rattle.lic_lines.specs.Cells.{cell_of};
-ghost use Rattle.lic_lines.specs.Runs.{runs_joined};
+ghost use Rattle.lic_lines.specs.Streaks.{streaks_joined};
 ghost use Rattle.lic_lines.specs.Tokens.{both_words, tokens_from, blank_after, single_signs, text_tokens_after, tokens_after, stretch_tokens, tokens_in};
 
 use crate::buffers::Buffers;
 use crate::cell::Cell;
 use crate::line::push_cells;
-use crate::mark_rows::mark_count;
+use crate::mark_sequences::mark_count;
 use crate::signs::{join_single_signs, signs_end};
 use crate::tokens::{FirstToken, mark_token, push_first_tokens, spell_word, word_token};
 use lic_kind::{Kind, Rules, kind_of};
@@ -26,7 +26,7 @@ pub struct FrontPart {
     pub blank_after: bool,
 }
 
-/// Adds the tokens of a row of marks, which a blank precedes or not, and says whether a blank
+/// Adds the tokens of a sequence of marks, which a blank precedes or not, and says whether a blank
 /// follows its last token. The buffers may hold anything.
 fn push_marks(
     alloc: Global,
@@ -41,10 +41,10 @@ fn push_marks(
         (tokens_in out.new.items
         ≡ tokens_in out.old.items
         ++ tokens_from after_blank
-        (groups both_words (runs_joined (rules_of rules.now) (map cell_of marks.now)))) }
+        (groups both_words (streaks_joined (rules_of rules.now) (map cell_of marks.now)))) }
     ensures blank { IfOk result (λ blank. blank
         ≡ blank_after after_blank
-        (groups both_words (runs_joined (rules_of rules.now) (map cell_of marks.now)))) }
+        (groups both_words (streaks_joined (rules_of rules.now) (map cell_of marks.now)))) }
 {
     if let [mark] = marks {
         out.push(mark_token(alloc, after_blank, *mark, &mut room.letters)?)?;
@@ -52,11 +52,11 @@ fn push_marks(
     }
     room.cells.clear();
     push_cells(&mut room.cells, marks)?;
-    let joined = room.runs.join(rules, &room.cells)?;
+    let joined = room.streaks.join(rules, &room.cells)?;
     push_first_tokens(alloc, after_blank, out, joined, &mut room.letters)
 }
 
-/// Adds the tokens of the longest row of characters of one kind at the start of a text.
+/// Adds the tokens of the longest sequence of characters of one kind at the start of a text.
 fn push_front(
     alloc: Global,
     rules: &Rules,
@@ -66,10 +66,10 @@ fn push_front(
     out: &mut Vec<FirstToken>,
 ) -> Result<FrontPart, AllocError>
     requires { 0 < length text.now }
-    ensures some { IfOk result (λ row. 0 < row.length) }
-    ensures within { IfOk result (λ row. row.length ≤ length text.now) }
-    ensures tokens { IfOk result (λ row. tokens_in out.new.items
-        ++ tokens_after (rules_of rules.now) row.blank_after (drop row.length text.now)
+    ensures some { IfOk result (λ sequence. 0 < sequence.length) }
+    ensures within { IfOk result (λ sequence. sequence.length ≤ length text.now) }
+    ensures tokens { IfOk result (λ sequence. tokens_in out.new.items
+        ++ tokens_after (rules_of rules.now) sequence.blank_after (drop sequence.length text.now)
         ≡ tokens_in out.old.items ++ tokens_after (rules_of rules.now) after_blank text.now) }
 {
     match kind_of(text[0].char) {
@@ -97,7 +97,7 @@ fn push_front(
     }
 }
 
-/// Adds the first tokens of a text of which nothing is taken, one row of characters of one kind after the
+/// Adds the first tokens of a text of which nothing is taken, one sequence of characters of one kind after the
 /// other.
 pub(crate) fn push_text(
     alloc: Global,
@@ -112,15 +112,15 @@ pub(crate) fn push_text(
     let mut after_blank = true;
     let mut at = 0;
     while at < text.len() {
-        let row = push_front(alloc, rules, after_blank, &text[at..], room, out)?;
-        after_blank = row.blank_after;
-        at += row.length;
+        let sequence = push_front(alloc, rules, after_blank, &text[at..], room, out)?;
+        after_blank = sequence.blank_after;
+        at += sequence.length;
     }
     Ok(())
 }
 
 /// Adds the first tokens at the start of a text of which nothing is taken, up to a place that no copyright sign reaches over.
-fn push_rows(
+fn push_sequences(
     alloc: Global,
     rules: &Rules,
     after_blank: bool,
@@ -143,9 +143,9 @@ fn push_rows(
     let mut blank_after = after_blank;
     let mut length = 0;
     while length < text.len() {
-        let row = push_front(alloc, rules, blank_after, &text[length..], room, out)?;
-        blank_after = row.blank_after;
-        length += row.length;
+        let sequence = push_front(alloc, rules, blank_after, &text[length..], room, out)?;
+        blank_after = sequence.blank_after;
+        length += sequence.length;
         if signs_end(out, blank_after) {
             break;
         }
@@ -176,7 +176,7 @@ pub fn front_part(
         ≡ text_tokens_after (rules_of rules.now) after_blank text.now) }
 {
     out.clear();
-    let part = push_rows(alloc, rules, after_blank, text, room, out)?;
+    let part = push_sequences(alloc, rules, after_blank, text, room, out)?;
     join_single_signs(out, 0);
     Ok(part)
 }

@@ -1,10 +1,10 @@
 //! What a text begins with: mostly a blank, a word, or a mark by itself.
 ghost use Rattle.std.specs.Prelude.{◌≡◌, ◌∷◌, [], ◌<◌, false, length, slice_index_or, IfOk, bytes_eq, codes, encode_utf8_all, string_bytes};
 ghost use Rattle.lic_kind.specs.Kinds.{kind_of};
-ghost use Rattle.lic_lines.specs.Runs.{may_join};
+ghost use Rattle.lic_lines.specs.Streaks.{may_join};
 ghost use Rattle.lic_lines.specs.TextStarts.{IsTextStart};
 
-use crate::mark_rows::goes_on;
+use crate::mark_sequences::goes_on;
 use crate::tokens::spell_word;
 use lic_kind::{Kind, kind_of, mark_letter};
 use lic_trim::SourceChar;

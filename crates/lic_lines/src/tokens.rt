@@ -6,8 +6,8 @@ ghost use Rattle.lic_lines.specs.Cells.{Mark, Word};
 ghost use Rattle.lic_lines.specs.Tokens.{both_words, cell_letters, letters_of, token_of, tokens_from, blank_after, token_in, tokens_in};
 
 use crate::cell::Cell;
-use crate::runs::{Grouping, end_after, group_end};
 use crate::small_string::SmallString;
+use crate::streaks::{Grouping, end_after, group_end};
 use lic_kind::{Kind, kind_of, spell, word_letter};
 use lic_trim::SourceChar;
 use std::alloc::{AllocError, Global};
@@ -121,7 +121,7 @@ pub(crate) fn spell_word(
     Ok(count)
 }
 
-/// The token of a row of word characters with these letters.
+/// The token of a sequence of word characters with these letters.
 pub(crate) fn word_token(
     alloc: Global,
     after_blank: bool,

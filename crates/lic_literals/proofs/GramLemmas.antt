@@ -5,7 +5,7 @@ use Rattle.std.proofs.lemmas.List.{drop-drop, drop-take, take-take}
 use Rattle.memchr.specs.Find.{OccursAt}
 use Rattle.memchr.proofs.lemmas.MatchLemmas.{OccursAt-part}
 
--- a part of the first n bytes from a place on
+-- a part of the first n bytes from an offset on
 part_within : (bytes : List ℕ) (from n d size : ℕ) → d + size ≤ n →
     slice_range (take n (drop from bytes)) d (d + size) ≡ slice_range bytes (from + d) (from + d + size)
 part_within bytes from n d size room =
@@ -19,7 +19,7 @@ part_within bytes from n d size room =
     ∙ ap (take size) (drop-drop d from bytes)
     ∙ ap (λ m. take m (drop (from + d) bytes)) there
 
--- a part of what is at a place occurs as much later
+-- a part of what is at an offset occurs as much later
 pub part_of_occurrence : (bytes window : List ℕ) (p d size : ℕ) → OccursAt bytes window p → d + size ≤ length window →
     slice_range window d (d + size) ≡ slice_range bytes (p + d) (p + d + size)
 part_of_occurrence bytes window p d size occurs room =

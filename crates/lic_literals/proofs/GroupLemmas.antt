@@ -57,7 +57,7 @@ module _ (keys : List (Option Key)) (short : List ℕ) (sharing : List (List ℕ
         (cases_lt k n);
   }
 
--- a list is read at a place
+-- a list is read at an offset
 pub list_read : {A : Type 0} (f : A → List ℕ) (xs : List A) (i : ℕ) (x : A) → i < length xs → x ≡ get_or xs i x → get_or (map f xs) i [] ≡ f x
 list_read f xs i x within is = get_or-map f xs i x [] within ∙ ap f (sym is)
 

@@ -1,4 +1,4 @@
--- A place more in one of several lists.
+-- An offset more in one of several lists.
 use Rattle.std.proofs.Common.{◌≡◌, ◌⊎◌, ◌==◌, ℕ, ◌<◌, ◌≤◌, true, false, cond, List, [], ◌∷◌, ◌++◌, Option, None, Some, length, map, get_or, set, inl, inr, refl, sym, ap, ◌∙◌, subst, arith, eq-eqb}
 use Rattle.std.specs.List.{Contains}
 use Rattle.std.specs.List.Sorted.{IsStrictlyIncreasing}
@@ -8,11 +8,11 @@ use Rattle.std.proofs.lemmas.List.{get_or-set_same, get_or_append_left, get_or_p
 use Rattle.std.proofs.lemmas.List.Elements.{All-get_or, All-map}
 use Rattle.std.proofs.lemmas.Option.{none-some, same_Some, slice_get_within}
 use Rattle.std.proofs.Math.Logic.{⊎_elim}
-use Rattle.lic_literals.specs.Hits.{IsListed, lists_of, places_of, slot_of}
+use Rattle.lic_literals.specs.Hits.{IsListed, lists_of, offsets_of, slot_of}
 use Rattle.lic_literals.specs.declared.hits.Hits.{Hits}
 use Rattle.lic_literals.proofs.Lists.{Contains-nil, Contains-set}
 
--- a place more in a slot
+-- an offset more in a slot
 module _ (slots : ℕ → Option ℕ) (lists : List (List ℕ)) (slot : ℕ) (now : List ℕ) (within : slot < length lists)
     (kept : (p : ℕ) → Contains (get_or lists slot []) p → Contains now p) where
   pub more_kept : (old new : ℕ) → old ≤ new → (i p : ℕ) → IsListed slots lists old i p → IsListed slots (set lists slot now) new i p
@@ -26,14 +26,14 @@ module _ (slots : ℕ → Option ℕ) (lists : List (List ℕ)) (slot : ℕ) (no
         h.listed;
   }
 
-  pub more_noted : (count window place : ℕ) → slots window ≡ Some slot → Contains now place → IsListed slots (set lists slot now) count window place
-  more_noted count window place at h = record {
+  pub more_noted : (count window offset : ℕ) → slots window ≡ Some slot → Contains now offset → IsListed slots (set lists slot now) count window offset
+  more_noted count window offset at h = record {
     slot = slot;
     at = at;
-    listed = inl (subst (λ xs. Contains xs place) (sym (get_or-set_same lists slot now [] within)) h);
+    listed = inl (subst (λ xs. Contains xs offset) (sym (get_or-set_same lists slot now [] within)) h);
   }
 
--- the first place of a window, in a slot of its own
+-- the first offset of a window, in a slot of its own
 module _ (old_slots new_slots : ℕ → Option ℕ) (lists : List (List ℕ)) (window : ℕ) (now : List ℕ) (last : ℕ) (count_is : last ≡ length lists)
     (absent : old_slots window ≡ None) (updates : (i : ℕ) → new_slots i ≡ cond (window == i) (Some last) (old_slots i)) where
   new_slot : new_slots window ≡ Some last
@@ -70,29 +70,29 @@ module _ (old_slots new_slots : ℕ → Option ℕ) (lists : List (List ℕ)) (w
         h.listed;
   }
 
-  pub first_noted : (count place : ℕ) → Contains now place → IsListed new_slots (lists ++ now ∷ []) count window place
-  first_noted count place h = record {
+  pub first_noted : (count offset : ℕ) → Contains now offset → IsListed new_slots (lists ++ now ∷ []) count window offset
+  first_noted count offset h = record {
     slot = last;
     at = new_slot;
-    listed = inl (subst (λ xs. Contains xs place) (sym (get_or_push lists now [] last (sym count_is))) h);
+    listed = inl (subst (λ xs. Contains xs offset) (sym (get_or_push lists now [] last (sym count_is))) h);
   }
 
--- the places of each window rise
-places_rise_at : (hits : Hits) (window : ℕ) (o : Option ℕ) → slot_of hits window ≡ o →
+-- the offsets of each window rise
+offsets_rise_at : (hits : Hits) (window : ℕ) (o : Option ℕ) → slot_of hits window ≡ o →
     IsStrictlyIncreasing (option_map_or (λ slot. get_or (lists_of hits) slot []) o [])
-places_rise_at hits window None at = λ k h. absurd (omega arith)
-places_rise_at hits window (Some slot) at =
+offsets_rise_at hits window None at = λ k h. absurd (omega arith)
+offsets_rise_at hits window (Some slot) at =
     let inside : slot < length (map (λ s. s.window) hits.occurrences.items) =
     slice_get_within (map (λ s. s.window) hits.occurrences.items) slot window (hits.placed window slot at) in
     let within : slot < length (lists_of hits) =
-    omega (arith, length-map hits.occurrences.items (λ s. s.window), length-map hits.occurrences.items (λ s. s.places.items)) in
-    All-get_or IsStrictlyIncreasing (lists_of hits) slot [] within (All-map IsStrictlyIncreasing (λ s. s.places.items) hits.occurrences.items hits.rising)
+    omega (arith, length-map hits.occurrences.items (λ s. s.window), length-map hits.occurrences.items (λ s. s.offsets.items)) in
+    All-get_or IsStrictlyIncreasing (lists_of hits) slot [] within (All-map IsStrictlyIncreasing (λ s. s.offsets.items) hits.occurrences.items hits.rising)
 
-pub places_rise : (hits : Hits) (window : ℕ) → IsStrictlyIncreasing (places_of hits window)
-places_rise hits window = places_rise_at hits window (slot_of hits window) refl
+pub offsets_rise : (hits : Hits) (window : ℕ) → IsStrictlyIncreasing (offsets_of hits window)
+offsets_rise hits window = offsets_rise_at hits window (slot_of hits window) refl
 
--- a listed place is among those of its window
-pub listed_place : (hits : Hits) (window place slot : ℕ) → slot_of hits window ≡ Some slot → Contains (get_or (lists_of hits) slot []) place →
-    Contains (places_of hits window) place
-listed_place hits window place slot at there =
-    subst (λ o. Contains (option_map_or (λ s. get_or (lists_of hits) s []) o []) place) (sym at) there
+-- a listed offset is among those of its window
+pub listed_offset : (hits : Hits) (window offset slot : ℕ) → slot_of hits window ≡ Some slot → Contains (get_or (lists_of hits) slot []) offset →
+    Contains (offsets_of hits window) offset
+listed_offset hits window offset slot at there =
+    subst (λ o. Contains (option_map_or (λ s. get_or (lists_of hits) s []) o []) offset) (sym at) there

@@ -1,4 +1,4 @@
--- Ends by the places of windows.
+-- Ends by the offsets of windows.
 use Rattle.std.proofs.Common.{◌≡◌, ◌⊎◌, ℕ, zero, suc, ◌+◌, ◌<◌, ◌≤◌, Bool, true, false, cond, None, Some, List, [], ◌∷◌, ◌++◌, inl, inr, map, filter, nat_le, length, take, get_or, All, refl, sym, ap, ◌∙◌, subst, arith, append-nil}
 use Rattle.std.specs.Prelude.{IfSome}
 use Rattle.std.specs.List.{Contains}
@@ -30,7 +30,7 @@ module _ (p : ℕ → Bool) where
       Contains-filter_more x xs y (p x) refl (inr (Contains-filter xs y (k, omega arith, is) known)) known
 
 module _ (by limit : ℕ) where
-  -- one place more
+  -- one offset more
   module _ (xs : List ℕ) (i x : ℕ) (within : i < length xs) (is : get_or xs i 0 ≡ x) where
     shifted_more : shifted by limit (take (i + 1) xs) ≡ shifted by limit (take i xs) ++ cond (nat_le (x + by) limit) ((x + by) ∷ []) []
     shifted_more =
@@ -61,7 +61,7 @@ module _ (by limit : ℕ) where
       All-weaker (λ e. nat_le e limit ≡ true) (λ e. e ≤ limit) (λ e. leb-true e limit) (shifted by limit xs)
       (filter_passes (λ e. nat_le e limit) (map (λ p. p + by) xs))
 
-  -- a place is shifted, if it stays within the limit
+  -- an offset is shifted, if it stays within the limit
   pub Contains-shifted : (xs : List ℕ) (p e : ℕ) → Contains xs p → p + by ≡ e → e ≤ limit → Contains (shifted by limit xs) e
   Contains-shifted xs p e inside at room =
       let (i, within, is) = inside in

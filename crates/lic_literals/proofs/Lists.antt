@@ -20,7 +20,7 @@ Contains-set lists i now within kept j p h =
     (λ (other : j ≡ i → ⊥). subst (λ xs. Contains xs p) (sym (get_or-set_other lists i j now [] other)) h)
     (cases_eq j i)
 
--- what is at a place of a list with one element more
+-- what is at an offset of a list with one element more
 module _ {A : Type 0} (xs : List A) (y : A) where
   pub read_before : (k : ℕ) (x : A) → slice_get xs k ≡ Some x → slice_get (xs ++ y ∷ []) k ≡ Some x
   read_before k x at =

@@ -7,7 +7,7 @@ use Rattle.memchr.proofs.lemmas.MatchLemmas.{OccursAt-from_part, OccursAt-part}
 use Rattle.lic_literals.specs.Ends.{EndsAt}
 
 module _ (bytes literal : List ℕ) where
-  -- bytes that are between two places are within the bytes, if there are any
+  -- bytes that are between two offsets are within the bytes, if there are any
   range_fits : (p q : ℕ) → 0 < length literal → q ≡ p + length literal → slice_range bytes p q ≡ literal → q ≤ length bytes
   range_fits p q some at is =
       let size : length (slice_range bytes p q) ≡ length literal = ap length is in

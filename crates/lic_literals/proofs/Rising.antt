@@ -81,7 +81,7 @@ module _ (xs : List ℕ) (at x : ℕ) (room : at ≤ length xs) where
       (cases_lt k at))
       (cases_lt (k + 1) at)
 
--- what comes before a place is less than what is there
+-- what comes before an offset is less than what is there
 pub less_before : (xs : List ℕ) → IsStrictlyIncreasing xs → (i x : ℕ) → i < length xs → Contains (take i xs) x → x < get_or xs i 0
 less_before xs rising i x within (j, inside, is) =
     let size : length (take i xs) ≡ i = length-take-le i xs (omega arith) in

@@ -63,49 +63,49 @@ module _ {LENGTH GRAM STEP : ℕ} (window : List ℕ) (given : ℕ) (old new : T
   }
 
 module _ {LENGTH GRAM STEP : ℕ} (table : Table LENGTH GRAM STEP) (bytes : List ℕ) (sizes : AreSizes LENGTH GRAM STEP) where
-  -- of the first grams of a window that is in the bytes, the one at this place is marked
-  pub gram_marked : (w : List ℕ) (i p place : ℕ) → HasWindow table w i → OccursAt bytes w p → p ≤ place → place < p + STEP →
-      IsMarked table (gram_at GRAM bytes place) (place - p)
-  gram_marked w i p place has occurs begins late =
-      let d : ℕ = place - p in
-      let here : p + d ≡ place = omega arith in
-      let gram : gram_at GRAM w d ≡ gram_at GRAM bytes place =
+  -- of the first grams of a window that is in the bytes, the one at this offset is marked
+  pub gram_marked : (w : List ℕ) (i p offset : ℕ) → HasWindow table w i → OccursAt bytes w p → p ≤ offset → offset < p + STEP →
+      IsMarked table (gram_at GRAM bytes offset) (offset - p)
+  gram_marked w i p offset has occurs begins late =
+      let d : ℕ = offset - p in
+      let here : p + d ≡ offset = omega arith in
+      let gram : gram_at GRAM w d ≡ gram_at GRAM bytes offset =
       part_of_occurrence bytes w p d GRAM occurs (omega (arith, sizes.fits, has.size)) ∙ ap (gram_at GRAM bytes) here in
       subst (λ gr. IsMarked table gr d) gram (has.marked d (omega arith))
 
-  -- those that begin late enough before a place
+  -- those that begin late enough before an offset
   abbrev pub IsLate : ℕ → ℕ → ℕ → Type 0
-  IsLate place back p = (p ≤ place) × (place < p + STEP) × (STEP + p ≤ place + back)
+  IsLate offset back p = (p ≤ offset) × (offset < p + STEP) × (STEP + p ≤ offset + back)
 
-  module _ (initial old new : Hits) (kept : (i p : ℕ) → IsNoted old i p → IsNoted new i p) (place : ℕ) where
-    pub around_more : (back : ℕ) → NotesWhere table bytes (IsLate place back) initial old →
-        ((w : List ℕ) (i p : ℕ) → HasWindow table w i → OccursAt bytes w p → p ≤ place → place < p + STEP → STEP + p ≡ place + (back + 1) → IsNoted new i p) →
-        NotesWhere table bytes (IsLate place (back + 1)) initial new
+  module _ (initial old new : Hits) (kept : (i p : ℕ) → IsNoted old i p → IsNoted new i p) (offset : ℕ) where
+    pub around_more : (back : ℕ) → NotesWhere table bytes (IsLate offset back) initial old →
+        ((w : List ℕ) (i p : ℕ) → HasWindow table w i → OccursAt bytes w p → p ≤ offset → offset < p + STEP → STEP + p ≡ offset + (back + 1) → IsNoted new i p) →
+        NotesWhere table bytes (IsLate offset (back + 1)) initial new
     around_more back notes found = record {
       found = λ w i p has occurs (a, b, d).
           ⊎_elim
-          (λ (now : place + back < STEP + p). found w i p has occurs a b (omega arith))
-          (λ (before : STEP + p ≤ place + back). kept i p (notes.found w i p has occurs (a, b, before)))
-          (cases_lt (place + back) (STEP + p));
+          (λ (now : offset + back < STEP + p). found w i p has occurs a b (omega arith))
+          (λ (before : STEP + p ≤ offset + back). kept i p (notes.found w i p has occurs (a, b, before)))
+          (cases_lt (offset + back) (STEP + p));
       kept = λ i p h. kept i p (notes.kept i p h);
     }
 
-    pub all_more : NotesWhere table bytes (λ p. p + STEP ≤ place) initial old →
-        ((w : List ℕ) (i p : ℕ) → HasWindow table w i → OccursAt bytes w p → p ≤ place → place < p + STEP → IsNoted new i p) →
-        NotesWhere table bytes (λ p. p + STEP ≤ place + STEP) initial new
+    pub all_more : NotesWhere table bytes (λ p. p + STEP ≤ offset) initial old →
+        ((w : List ℕ) (i p : ℕ) → HasWindow table w i → OccursAt bytes w p → p ≤ offset → offset < p + STEP → IsNoted new i p) →
+        NotesWhere table bytes (λ p. p + STEP ≤ offset + STEP) initial new
     all_more notes found = record {
       found = λ w i p has occurs early.
           ⊎_elim
-          (λ (now : place < p + STEP). found w i p has occurs (omega arith) now)
-          (λ (before : p + STEP ≤ place). kept i p (notes.found w i p has occurs before))
-          (cases_lt place (p + STEP));
+          (λ (now : offset < p + STEP). found w i p has occurs (omega arith) now)
+          (λ (before : p + STEP ≤ offset). kept i p (notes.found w i p has occurs before))
+          (cases_lt offset (p + STEP));
       kept = λ i p h. kept i p (notes.kept i p h);
     }
 
-  -- the last places were looked at
-  pub all_done : (initial hits : Hits) (place : ℕ) → length bytes < place + GRAM → NotesWhere table bytes (λ p. p + STEP ≤ place) initial hits →
+  -- the last offsets were looked at
+  pub all_done : (initial hits : Hits) (offset : ℕ) → length bytes < offset + GRAM → NotesWhere table bytes (λ p. p + STEP ≤ offset) initial hits →
       NotesWhere table bytes (λ _. Unit {0}) initial hits
-  all_done initial hits place end notes = record {
+  all_done initial hits offset end notes = record {
     found = λ w i p has occurs _. notes.found w i p has occurs (omega (arith, sizes.fits, has.size, occurs.fits));
     kept = notes.kept;
   }

@@ -33,7 +33,7 @@ module _ {LENGTH GRAM STEP : ℕ} (table : Table LENGTH GRAM STEP) (bytes litera
         notes.found (slice_range literal is.start (is.start + LENGTH)) key.window (q + is.start) is.window occurs tt,
       )
 
--- more places are noted
+-- more offsets are noted
 noted_later : (i to_end e : ℕ) (old new : Hits) → ((p : ℕ) → IsNoted old i p → IsNoted new i p) → (p : ℕ) × (p + to_end ≡ e) × IsNoted old i p →
     (p : ℕ) × (p + to_end ≡ e) × IsNoted new i p
 noted_later i to_end e old new kept (p, at, noted) = (p, at, kept p noted)
@@ -125,7 +125,7 @@ module _ (literal : List ℕ) (number : ℕ) (old : Tables) where
     };
   }
 
--- the window that begins at a place is put down in a table
+-- the window that begins at an offset is put down in a table
 module _ {LENGTH GRAM STEP : ℕ} (literal : List ℕ) (number start answer : ℕ) (old new : Table LENGTH GRAM STEP) (room : start + LENGTH ≤ length literal)
     (adds : AddsWindow (slice_range literal start (start + LENGTH)) number answer old new) where
   pub adds_key : AddsKey literal number (record { window = answer; to_end = length literal - start }) old new

@@ -25,7 +25,7 @@ pub record IsPrefilter (literals : List (List ℕ)) (keys : List (Option Key)) (
   pub keyed : AreKeyed literals keys tables
   pub grouped : AreGroupsOf keys groups
 
--- by what is noted of its window, a literal with this key may end at a place
+-- by what is noted of its window, a literal with this key may end at an offset
 abbrev pub CanEndAt : Option Key → Hits → ℕ → Type 0
 CanEndAt None hits e = Unit {0}
 CanEndAt (Some key) hits e = (p : ℕ) × (p + key.to_end ≡ e) × IsNoted hits key.window p

@@ -46,7 +46,7 @@ module _ {LENGTH GRAM STEP : ℕ} where
     pub kept : (w : List ℕ) (i : ℕ) → HasWindow old w i → HasWindow new w i
     pub below : AllBelow old given → AllBelow new (given + 1)
 
-  -- each place of this kind at which a window occurs is noted, and what was noted before still is
+  -- each offset of this kind at which a window occurs is noted, and what was noted before still is
   pub record NotesWhere (table : Table LENGTH GRAM STEP) (bytes : List ℕ) (kind : ℕ → Type 0) (old new : Hits) : Type 0 where
     pub found : (w : List ℕ) (i p : ℕ) → HasWindow table w i → OccursAt bytes w p → kind p → IsNoted new i p
     pub kept : (i p : ℕ) → IsNoted old i p → IsNoted new i p

@@ -45,7 +45,7 @@ pub record AddsLiteral (literal : List ℕ) (number : ℕ) (key : Option Key) (o
   pub kept : (l : List ℕ) (k : Option Key) → HasKey old l k → HasKey new l k
   pub below : AreBelow old number → AreBelow new (number + 1)
 
--- for each place at which a literal with a key ends, its window is noted
+-- for each offset at which a literal with a key ends, its window is noted
 pub record NotesKeys (tables : Tables) (bytes : List ℕ) (old new : Hits) : Type 0 where
   pub found : (literal : List ℕ) (key : Key) (e : ℕ) → HasKey tables literal (Some key) → EndsAt bytes literal e →
       (p : ℕ) × (p + key.to_end ≡ e) × IsNoted new key.window p

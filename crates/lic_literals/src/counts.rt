@@ -53,11 +53,11 @@ impl Counts {
     {
         let mut rarest = 0;
         let mut least = u16::MAX;
-        for place in 0..(literal.len() - (size - 1)).min(MOST_WINDOWS) {
-            let count = self.count(&literal[place..place + size]);
+        for offset in 0..(literal.len() - (size - 1)).min(MOST_WINDOWS) {
+            let count = self.count(&literal[offset..offset + size]);
             if count < least {
                 least = count;
-                rarest = place;
+                rarest = offset;
             }
         }
         rarest

@@ -1,4 +1,4 @@
-//! The places at which a literal ends in bytes.
+//! The offsets at which a literal ends in bytes.
 
 ghost use Rattle.std.specs.Prelude.{◌≤◌, ◌<◌, ◌↔◌, ℕ, IfOk, Contains, length};
 ghost use Rattle.std.specs.List.Sorted.{IsStrictlyIncreasing};
@@ -7,7 +7,7 @@ ghost use Rattle.lic_literals.specs.Ends.{EndsAt};
 use memchr::memmem::Finder;
 use std::alloc::{AllocError, Global};
 
-/// The places in `from..=to` (bytes) at which the literal ends, in rising order. Occurrences may overlap.
+/// The offsets in `from..=to` (bytes) at which the literal ends, in rising order. Occurrences may overlap.
 pub fn ends_within(
     alloc: Global,
     bytes: &[u8],

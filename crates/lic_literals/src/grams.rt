@@ -18,10 +18,10 @@ pub const SHORT_GRAM: usize = 4;
 // How far up in a hash the bits are that number a mark: the highest 18.
 const MARK_BITS: u32 = 46;
 
-// How far up in a hash the bits are that number a mark together with a place: the next 15.
+// How far up in a hash the bits are that number a mark together with an offset: the next 15.
 const NEXT_BITS: u32 = 31;
 
-// How many places in a window a mark tells apart.
+// How many offsets in a window a mark tells apart.
 const STARTS: usize = 8;
 
 /// The hash of a gram: its first eight bytes, or its first four where it has fewer, as a word, times a number.

@@ -9,14 +9,14 @@ ghost use Rattle.std.proofs.Props.{props};
 use std::alloc::{AllocError, Global};
 use std::collections::HashMap;
 
-// The most places of all windows that are listed. Past it a window that occurs counts as occurring anywhere.
+// The most offsets of all windows that are listed. Past it a window that occurs counts as occurring anywhere.
 const MOST_PLACES: usize = 262_144;
 
-/// A window that occurs, by its number, and its places in rising order.
+/// A window that occurs, by its number, and its offsets in rising order.
 #[derive(Debug, Drop)]
 pub struct Occurrence {
     pub window: usize,
-    pub places: Vec<usize>,
+    pub offsets: Vec<usize>,
 }
 
 /// Where windows occur.
@@ -25,15 +25,15 @@ pub struct Hits {
     occurrences: Vec<Occurrence>,
     // where each window is among them
     slots: HashMap<usize, usize>,
-    // how many places were listed
+    // how many offsets were listed
     count: usize,
-    ghost rising: { All (λ s. IsStrictlyIncreasing s.places.items) occurrences.items },
+    ghost rising: { All (λ s. IsStrictlyIncreasing s.offsets.items) occurrences.items },
     ghost placed: { (i slot : ℕ) → get nat_eq slots i ≡ Some slot
         → slice_get (map (λ s. s.window) occurrences.items) slot ≡ Some i },
 }
 
 impl Hits {
-    ghost use Rattle.lic_literals.specs.Hits.{NotesPlace, lists_of, places_of};
+    ghost use Rattle.lic_literals.specs.Hits.{NotesOffset, lists_of, offsets_of};
 
     /// No windows.
     pub fn new(alloc: Global) -> Hits
@@ -46,40 +46,40 @@ impl Hits {
         }
     }
 
-    /// Notes that a window is at a place.
-    pub fn note(&mut self, window: usize, place: usize) -> Result<(), AllocError>
-        ensures { OnOk result (NotesPlace window place self.old self.new) }
+    /// Notes that a window is at an offset.
+    pub fn note(&mut self, window: usize, offset: usize) -> Result<(), AllocError>
+        ensures { OnOk result (NotesOffset window offset self.old self.new) }
     {
         match self.slots.get(&window).copied() {
-            Some(slot) => self.note_more(slot, place),
-            None => self.note_first(window, place),
+            Some(slot) => self.note_more(slot, offset),
+            None => self.note_first(window, offset),
         }
     }
 
-    // Notes the first place of a window.
-    fn note_first(&mut self, window: usize, place: usize) -> Result<(), AllocError>
+    // Notes the first offset of a window.
+    fn note_first(&mut self, window: usize, offset: usize) -> Result<(), AllocError>
         requires { get nat_eq self.old.slots window ≡ None }
-        ensures { OnOk result (NotesPlace window place self.old self.new) }
+        ensures { OnOk result (NotesOffset window offset self.old self.new) }
     {
         let slot = self.occurrences.len();
-        let places = Vec::from_array(*self.occurrences.allocator(), [place])?;
-        self.occurrences.push(Occurrence { window, places })?;
+        let offsets = Vec::from_array(*self.occurrences.allocator(), [offset])?;
+        self.occurrences.push(Occurrence { window, offsets })?;
         self.slots.insert(window, slot)?;
         self.count = self.count.saturating_add(1);
         Ok(())
     }
 
-    // Notes another place of the window in this slot, unless there are too many.
-    fn note_more(&mut self, slot: usize, place: usize) -> Result<(), AllocError>
+    // Notes another offset of the window in this slot, unless there are too many.
+    fn note_more(&mut self, slot: usize, offset: usize) -> Result<(), AllocError>
         requires { slot < length self.old.occurrences.items }
         ensures { OnOk result ((window : ℕ) → get nat_eq self.old.slots window ≡ Some slot
-            → NotesPlace window place self.old self.new) }
+            → NotesOffset window offset self.old self.new) }
     {
         if self.is_full() {
             return Ok(());
         }
         let one = &mut self.occurrences[slot];
-        insert(&mut one.places, place)?;
+        insert(&mut one.offsets, offset)?;
         self.count = self.count.saturating_add(1);
         Ok(())
     }
@@ -98,24 +98,24 @@ impl Hits {
         &self.occurrences
     }
 
-    /// The places that are listed for a window.
-    pub fn places(&self, window: usize) -> &[usize]
-        ensures value { result.now ≡ places_of self.now window }
+    /// The offsets that are listed for a window.
+    pub fn offsets(&self, window: usize) -> &[usize]
+        ensures value { result.now ≡ offsets_of self.now window }
         ensures rising { IsStrictlyIncreasing result.now }
     {
         match self.slots.get(&window).copied() {
-            Some(slot) => self.places_in(slot),
+            Some(slot) => self.offsets_in(slot),
             None => &[],
         }
     }
 
-    fn places_in(&self, slot: usize) -> &[usize]
+    fn offsets_in(&self, slot: usize) -> &[usize]
         requires { slot < length self.now.occurrences.items }
         ensures value { result.now ≡ slice_index_or (lists_of self.now) slot [] }
         ensures rising { IsStrictlyIncreasing result.now }
     {
         let one = &self.occurrences[slot];
-        &one.places
+        &one.offsets
     }
 }
 

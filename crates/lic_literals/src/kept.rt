@@ -16,7 +16,7 @@ pub struct Kept {
     pub(crate) ends: Option<Ends>,
 }
 
-/// The ends of a literal by the places of its window, which all literals share.
+/// The ends of a literal by the offsets of its window, which all literals share.
 #[derive(Drop)]
 pub struct Ends {
     pub(crate) hits: Rc<Hits>,
@@ -30,7 +30,7 @@ pub struct Ends {
 impl Kept {
     ghost use Rattle.lic_literals.specs.Kept.{ends_of};
 
-    /// The places at which the literal may end, in rising order; none where it may end anywhere.
+    /// The offsets at which the literal may end, in rising order; none where it may end anywhere.
     ///
     /// Only its window was compared, so it need not end at each of them.
     pub fn ends(&self, alloc: Global) -> Result<Option<Vec<usize>>, AllocError>
@@ -50,9 +50,9 @@ impl Ends {
         ensures { IfOk result (λ ends. ends.items ≡ listed self.now) }
     {
         let mut ends = Vec::new(alloc);
-        for place in self.hits.places(self.window) {
-            if *place <= self.limit && self.to_end <= self.limit - *place {
-                ends.push(*place + self.to_end)?;
+        for offset in self.hits.offsets(self.window) {
+            if *offset <= self.limit && self.to_end <= self.limit - *offset {
+                ends.push(*offset + self.to_end)?;
             }
         }
         Ok(ends)

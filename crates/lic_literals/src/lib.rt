@@ -1,4 +1,4 @@
-//! Where literals occur in bytes: each place at which one ends, and a prefilter over many at once.
+//! Where literals occur in bytes: each offset at which one ends, and a prefilter over many at once.
 #![tactic(auto)]
 
 mod counts;

@@ -103,7 +103,7 @@ impl Prefilter {
     }
 }
 
-// The literal of this number as a candidate. Its ends are not known where it has no window, and where there are too many places to list.
+// The literal of this number as a candidate. Its ends are not known where it has no window, and where there are too many offsets to list.
 fn candidate(
     number: usize,
     key: Option<Key>,

@@ -19,7 +19,7 @@ const MIDDLE: usize = 7;
 
 const SHORT: usize = 4;
 
-// Of how many places in a row one is looked at for the windows of a length.
+// Of how many offsets in a row one is looked at for the windows of a length.
 const LONG_STEP: usize = 8;
 
 const MIDDLE_STEP: usize = 4;
@@ -78,7 +78,7 @@ impl Tables {
         Ok(Some(key))
     }
 
-    /// Notes each place at which a window occurs in the bytes.
+    /// Notes each offset at which a window occurs in the bytes.
     pub fn note_all(&self, bytes: &[u8], hits: &mut Hits) -> Result<(), AllocError>
         ensures { OnOk result (NotesKeys self.now bytes.now hits.old hits.new) }
     {

@@ -185,7 +185,7 @@ fn template_in(
 {
     if bytes.len() > MAX_BYTES {
         return Err(TemplateFault::Markup(MarkupFault {
-            place: 0,
+            offset: 0,
             cause: MarkupCause::TooLong,
         }));
     }

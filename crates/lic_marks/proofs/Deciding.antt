@@ -3,9 +3,9 @@ use Rattle.std.proofs.Common.{◌≡◌, ℕ, zero, suc, ◌+◌, ◌<◌, ◌�
 use Rattle.std.proofs.lemmas.Bool.{eqb-false}
 use Rattle.lic_words.specs.Words.{Word, blank}
 use Rattle.lic_words.specs.Expressions.{Expression}
-use Rattle.lic_words.specs.Spelling.{Gap, no_gap, free, needed, SpellsGapped, gapped, gapped_from, row_of}
+use Rattle.lic_words.specs.Spelling.{Gap, no_gap, free, needed, SpellsGapped, gapped, gapped_from, sequence_of}
 use Rattle.lic_words.specs.Describing.{IsDescribed}
-use Rattle.lic_words.proofs.Rows.{gapped_from-blank, gapped_from-letter}
+use Rattle.lic_words.proofs.Sequences.{gapped_from-blank, gapped_from-letter}
 use Rattle.lic_marks.specs.Cores.{Core, empty, one, cat, none, alt, plus, tidy, WordsOf, core}
 use Rattle.lic_marks.specs.Marks.{Marks, no_marks, shift, join}
 use Rattle.lic_marks.specs.Rows.{weight}
@@ -194,11 +194,11 @@ pub is_described_sound : (e : Expression) (ts : List (List ℕ)) → is_describe
 is_described_sound e [] h = absurd (let never : false ≡ true = h in cc)
 is_described_sound e (t ∷ ts) h =
     let found = can_read_sound (core e) (gapped (t ∷ ts)) [] true (no_marks (core e)) (RepresentsAtOnce-begin (core e))
-    (AreLetters-gapped_from (row_of (t ∷ ts)) blank false) h in
+    (AreLetters-gapped_from (sequence_of (t ∷ ts)) blank false) h in
     (λ none. let never : t ∷ ts ≡ [] = none in cc, found.0, core_sound e found.0 found.1, found.2)
 
 pub is_described_complete : (e : Expression) (ts : List (List ℕ)) → IsDescribed e ts → is_described e ts ≡ true
 is_described_complete e [] h = absurd (h.0 refl)
 is_described_complete e (t ∷ ts) h =
     can_read_complete (core e) (gapped (t ∷ ts)) [] true (no_marks (core e)) (RepresentsAtOnce-begin (core e))
-    (AreLetters-gapped_from (row_of (t ∷ ts)) blank false) h.1 (core_complete e h.1 h.2) h.3
+    (AreLetters-gapped_from (sequence_of (t ∷ ts)) blank false) h.1 (core_complete e h.1 h.2) h.3

@@ -4,7 +4,7 @@ use Rattle.lic_words.specs.Words.{Word, blank, blanks}
 use Rattle.lic_words.specs.Letters.{is_word}
 use Rattle.lic_words.specs.Expressions.{Expression}
 use Rattle.lic_words.specs.Spelling.{Gap, free, gap_of, gapped, gapped_from, last_letter, last_of}
-use Rattle.lic_words.proofs.Rows.{gapped_from-blank, gapped_from-letter, last_letter-blank, last_letter-letter, last_of-snoc}
+use Rattle.lic_words.proofs.Sequences.{gapped_from-blank, gapped_from-letter, last_letter-blank, last_letter-letter, last_of-snoc}
 use Rattle.lic_words.proofs.Spellings.{gap-behind_blank}
 use Rattle.lic_marks.specs.Cores.{Core, HasWordsOf, WordsOf}
 use Rattle.lic_marks.specs.Representing.{After, AfterAny, each_with}

@@ -6,7 +6,7 @@
 #![tactic(auto)]
 
 mod anchored;
-pub mod build;
+mod build;
 pub mod laws;
 mod leave;
 mod moves;
@@ -18,6 +18,7 @@ mod test;
 mod unanchored;
 
 pub use anchored::AnchoredMatcher;
+pub use build::{alt, cat, copies, is_nullable, letters, one, plus, repeat, tidy, up_to};
 pub use node::{Node, Times};
 pub use state::State;
 pub use test::Test;

@@ -4,7 +4,7 @@ use Rattle.std.proofs.lemmas.List.{drop-drop}
 use Rattle.lic_ere.specs.Located.{Located, further}
 use Rattle.lic_markup.specs.declared.rule.tag.Tag.{Tag}
 use Rattle.lic_markup.specs.declared.fault.MarkupFault.{MarkupFault}
-use Rattle.lic_markup.specs.Texts.{place_of}
+use Rattle.lic_markup.specs.Texts.{offset_of}
 use Rattle.lic_markup.specs.Faults.{map_ok}
 use Rattle.lic_markup.specs.Rules.{Rule, tag_at, rule_at}
 use Rattle.lic_markup.specs.Elements.{Element, text, rule, refused, and_then, elements}
@@ -153,9 +153,9 @@ rule_elements : (piece following rest : List Located) (r : Rule) → IsRule foll
 rule_elements piece following rest r is =
     let one = rule_read is in
     let two = tag_read following one.following one.tag one.is in
-    let three = read_was one.following (rule_at (place_of following) one.tag one.following) r rest one.read in
+    let three = read_was one.following (rule_at (offset_of following) one.tag one.following) r rest one.read in
     let gives : rule_at two.first.0 one.tag (drop two.taken two.after) ≡ Ok (r, three.0) =
-    (λ i. rule_at (place_of (sym two.all i)) one.tag (two.rest i)) ∙ three.1 in
+    (λ i. rule_at (offset_of (sym two.all i)) one.tag (two.rest i)) ∙ three.1 in
     ap (elements piece 0) two.all
     ∙ elements-step piece two.first two.after
     ∙ ap (step piece two.first two.after) two.read
@@ -169,7 +169,7 @@ fault_elements piece following e is =
     let one = rule_refused is in
     let two = tag_read following one.following one.tag one.is in
     let gives : rule_at two.first.0 one.tag (drop two.taken two.after) ≡ Err e =
-    (λ i. rule_at (place_of (sym two.all i)) one.tag (two.rest i)) ∙ one.refuses in
+    (λ i. rule_at (offset_of (sym two.all i)) one.tag (two.rest i)) ∙ one.refuses in
     ap (elements piece 0) two.all
     ∙ elements-step piece two.first two.after
     ∙ ap (step piece two.first two.after) two.read

@@ -15,10 +15,10 @@ use Rattle.lic_markup.specs.Elements.{Element, text, rule, rule_after, and_then,
 use Rattle.lic_markup.proofs.LocatedLemmas.{same_front}
 
 -- a fault that is not lack of memory is what reading meets
-pub Fails-lasting : {A : Type 0} (cause : MarkupCause) (place : ℕ) (r : Result A MarkupFault)
-    → (cause ≡ OutOfMemory → ⊥) → Fails cause place r → r ≡ Err (fault_at place cause)
-Fails-lasting OutOfMemory place r lasting h = absurd (lasting refl)
-Fails-lasting cause place r lasting h = h
+pub Fails-lasting : {A : Type 0} (cause : MarkupCause) (offset : ℕ) (r : Result A MarkupFault)
+    → (cause ≡ OutOfMemory → ⊥) → Fails cause offset r → r ≡ Err (fault_at offset cause)
+Fails-lasting OutOfMemory offset r lasting h = absurd (lasting refl)
+Fails-lasting cause offset r lasting h = h
 
 pub elements-skipped : (piece : List Located) (n : ℕ) (xs : List Located) → elements piece n xs ≡ elements piece 0 (drop n xs)
 unfolding elements
@@ -85,14 +85,14 @@ no_tag : (x : Located) (rest : List Located) → (x.1 == less) ≡ false → tag
 unfolding tag_at
 no_tag x rest h = rw h refl
 
-pub plain_row : (front plain following : List Located) → has_sign plain ≡ false
+pub plain_sequence : (front plain following : List Located) → has_sign plain ≡ false
     → elements front 0 (plain ++ following) ≡ elements (front ++ plain) 0 following
-plain_row front [] following none = ap (λ (p : List Located). elements p 0 following) (sym (append-nil front))
-plain_row front (x ∷ plain) following none =
+plain_sequence front [] following none = ap (λ (p : List Located). elements p 0 following) (sym (append-nil front))
+plain_sequence front (x ∷ plain) following none =
     let two = neither (x.1 == less) (has_sign plain) none in
     elements-step front x (plain ++ following)
     ∙ ap (step front x (plain ++ following)) (no_tag x (plain ++ following) two.0)
-    ∙ plain_row (front ++ x ∷ []) plain following two.1
+    ∙ plain_sequence (front ++ x ∷ []) plain following two.1
     ∙ ap (λ (p : List Located). elements p 0 following) (append_assoc front (x ∷ []) plain)
 
 -- ---- the loop
@@ -115,7 +115,7 @@ module _ (found : List Element) (piece rest plain here : List Located) (total : 
       record {
         front = f ++ plain;
         parts = append_assoc f plain here ∙ ap (λ l. f ++ l) (sym parts) ∙ cut.parts;
-        so_far = ap (λ es. found ++ es) (sym (plain_row f plain here none))
+        so_far = ap (λ es. found ++ es) (sym (plain_sequence f plain here none))
             ∙ ap (λ (l : List Located). found ++ elements f 0 l) (sym parts) ∙ cut.so_far;
       }
 
@@ -153,7 +153,7 @@ cut_ends found piece rest total none cut =
     let f = cut.front in
     ap (λ p. found ++ text p ∷ []) (sym cut.parts)
     ∙ ap (λ es. found ++ es)
-    (sym (ap (λ (l : List Located). elements f 0 l) (sym (append-nil rest)) ∙ plain_row f rest [] none ∙ elements-end (f ++ rest) [] refl))
+    (sym (ap (λ (l : List Located). elements f 0 l) (sym (append-nil rest)) ∙ plain_sequence f rest [] none ∙ elements-end (f ++ rest) [] refl))
     ∙ cut.so_far
 
 pub others-none : (rest : List Located) (r : Result (Rule × ℕ) MarkupFault) → after_rule rest r ≡ None → others rest r ≡ []

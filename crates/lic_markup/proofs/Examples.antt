@@ -5,7 +5,7 @@ use Rattle.std.specs.Char.{encode_utf8}
 use Rattle.caseless.proofs.Computing.{caseless}
 use Rattle.lic_kind.specs.LineRules.{profile}
 use Rattle.lic_kind.specs.Kinds.{kind_of, spell}
-use Rattle.lic_norm.specs.Pieces.{piece_cells, piece_tokens, piece_of}
+use Rattle.lic_pieces.specs.Pieces.{piece_cells, piece_tokens, piece_of}
 use Rattle.lic_ere.specs.Trees.{any, repeat}
 use Rattle.lic_ere.specs.Bounds.{number_at, upper_bound, bounds_at}
 use Rattle.lic_ere.specs.Brackets.{member_at, members_at, bracket_at}
@@ -43,7 +43,7 @@ plain_text : reading profile [] (codes "a << b") ≡ Ok (record { parts = letter
 unfolding chars encode_utf8 spell kind_of caseless piece_cells piece_tokens piece_of tag_at name_at quoted_at plain_at value_at field_at fields_at rule_at elements meet read_on
 plain_text = refl
 
-bracket_extension : reading profile [] (codes "x <<var;name=\"n\";original=\"o\";match=\"[[:alpha:]]\">>") ≡ Err (fault_at 37 (Pattern (record { place = 1; cause = BracketExtension })))
+bracket_extension : reading profile [] (codes "x <<var;name=\"n\";original=\"o\";match=\"[[:alpha:]]\">>") ≡ Err (fault_at 37 (Pattern (record { offset = 1; cause = BracketExtension })))
 unfolding chars encode_utf8 spell kind_of caseless piece_cells piece_tokens piece_of tag_at name_at quoted_at plain_at value_at field_at fields_at rule_at elements meet read_on number_at upper_bound bounds_at member_at members_at bracket_at lexeme_at lexemes ere.meet ere.read_on
 bracket_extension = refl
 

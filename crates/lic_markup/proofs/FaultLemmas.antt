@@ -9,17 +9,17 @@ use Rattle.lic_ere.specs.Located.{Located, further, with_remaining}
 use Rattle.lic_markup.specs.Faults.{fault_at, reported, reported_cause, Fails, Gives, map_ok}
 
 -- a reading that fails wherever another does fails with it
-pub Fails-with : {A B : Type 0} (cause : MarkupCause) (place : ℕ) (r : Result A MarkupFault) (s : Result B MarkupFault)
-    → ((e : MarkupFault) → r ≡ Err e → s ≡ Err e) → Fails cause place r → Fails cause place s
-Fails-with OutOfMemory place r s along h = h
-Fails-with cause place r s along h = along (fault_at place cause) h
+pub Fails-with : {A B : Type 0} (cause : MarkupCause) (offset : ℕ) (r : Result A MarkupFault) (s : Result B MarkupFault)
+    → ((e : MarkupFault) → r ≡ Err e → s ≡ Err e) → Fails cause offset r → Fails cause offset s
+Fails-with OutOfMemory offset r s along h = h
+Fails-with cause offset r s along h = along (fault_at offset cause) h
 
 -- the exit by `?` of a reader that failed
 pub Gives-err : {X A B : Type 0} (view : X → B) (result : Result X MarkupFault) (e : MarkupFault)
     (r : Result A MarkupFault) (s : Result B MarkupFault) → IsErrAnd result (λ f. f ≡ e)
-    → ((d : MarkupFault) → r ≡ Err d → s ≡ Err d) → Fails e.cause e.place r → Gives view result s
+    → ((d : MarkupFault) → r ≡ Err d → s ≡ Err d) → Fails e.cause e.offset r → Gives view result s
 Gives-err view (Ok x) e r s left along h = absurd left
-Gives-err view (Err f) e r s left along h = subst (λ (d : MarkupFault). Fails d.cause d.place s) (sym left) (Fails-with e.cause e.place r s along h)
+Gives-err view (Err f) e r s left along h = subst (λ (d : MarkupFault). Fails d.cause d.offset s) (sym left) (Fails-with e.cause e.offset r s along h)
 
 pub map_ok-same : {A B : Type 0} (f g : A → B) (r : Result A MarkupFault) → ((x : A) → f x ≡ g x) → map_ok f r ≡ map_ok g r
 map_ok-same f g (Ok x) same = ap (λ y. Ok y) (same x)
@@ -47,12 +47,12 @@ pub following-following : {A B : Type 0} (front more : List A) (r : Result (List
 following-following front more (Ok x) = ap (λ l. Ok (l, x.1)) (append_assoc front more x.0)
 following-following front more (Err e) = refl
 
-Fails-reported_cause : (A : Type 0) (cause : MarkupCause) (place : ℕ)
-    → Fails {Y = A} (reported_cause cause (fault_at place cause)).cause (reported_cause cause (fault_at place cause)).place
-    (Err (fault_at place cause))
-Fails-reported_cause A OutOfMemory place = refl
-Fails-reported_cause A _ place = refl
+Fails-reported_cause : (A : Type 0) (cause : MarkupCause) (offset : ℕ)
+    → Fails {Y = A} (reported_cause cause (fault_at offset cause)).cause (reported_cause cause (fault_at offset cause)).offset
+    (Err (fault_at offset cause))
+Fails-reported_cause A OutOfMemory offset = refl
+Fails-reported_cause A _ offset = refl
 
 -- a fault that is reported is that of a reading that fails with it
-pub Fails-reported : (A : Type 0) (e f : MarkupFault) → f ≡ reported e → Fails {Y = A} f.cause f.place (Err e)
-Fails-reported A e f is = subst (λ (g : MarkupFault). Fails {Y = A} g.cause g.place (Err e)) (sym is) (Fails-reported_cause A e.cause e.place)
+pub Fails-reported : (A : Type 0) (e f : MarkupFault) → f ≡ reported e → Fails {Y = A} f.cause f.offset (Err e)
+Fails-reported A e f is = subst (λ (g : MarkupFault). Fails {Y = A} g.cause g.offset (Err e)) (sym is) (Fails-reported_cause A e.cause e.offset)

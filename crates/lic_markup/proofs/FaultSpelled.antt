@@ -16,7 +16,7 @@ use Rattle.lic_markup.specs.Faults.{fault_at}
 use Rattle.lic_markup.specs.Rules as rules
 use Rattle.lic_markup.specs.Elements.{Element, text, rule, refused, elements}
 use Rattle.lic_markup.specs.Lines.{with_next, next_of}
-use Rattle.lic_markup.specs.Parts.{Node, Reading, row, row_weight, row_has_token}
+use Rattle.lic_markup.specs.Parts.{Node, Reading, sequence, sequence_weight, sequence_has_token}
 use Rattle.lic_markup.specs.Reading as reading
 use Rattle.lic_markup.specs.Reading.{Level, State, meet, meet_text, meet_variable, meet_end, finish, read_on, read_elements, start, whole, reported, max_depth, max_length, max_weight}
 use Rattle.lic_markup.specs.Templates as templates
@@ -68,31 +68,31 @@ lead-deeper (out h) = out (lead-deeper h)
 abbrev Open : List Element → Level → List Level → Type 0
 Open before level [] = Lead 0 before 0
 Open before level (o ∷ outer) =
-    (front : List Element) × (following : List Element) × (before ≡ front ++ rule (rules.begin level.place) ∷ following)
+    (front : List Element) × (following : List Element) × (before ≡ front ++ rule (rules.begin level.offset) ∷ following)
     × Lead 0 following 0 × Open front o outer
 
 -- elements that leave as many parts open
-open-on : (before more : List Element) (l m : Level) (outer : List Level) → m.place ≡ l.place → Lead 0 more 0
+open-on : (before more : List Element) (l m : Level) (outer : List Level) → m.offset ≡ l.offset → Lead 0 more 0
     → Open before l outer → Open (before ++ more) m outer
 open-on before more l m [] same leads h = lead-append more h leads
 open-on before more l m (o ∷ outer) same leads h = (
   h.0,
   h.1 ++ more,
-  ap (λ es. es ++ more) h.2 ∙ append_assoc h.0 (rule (rules.begin l.place) ∷ h.1) more
+  ap (λ es. es ++ more) h.2 ∙ append_assoc h.0 (rule (rules.begin l.offset) ∷ h.1) more
       ∙ ap (λ p. h.0 ++ rule (rules.begin p) ∷ (h.1 ++ more)) (sym same),
   lead-append more h.3 leads,
   h.4,
 )
 
 -- the end of the innermost part
-open-end : (before : List Element) (place : ℕ) (level o m : Level) (outer : List Level) → m.place ≡ o.place
-    → Open before level (o ∷ outer) → Open (before ++ rule (rules.finish place) ∷ []) m outer
-open-end before place level o m outer same h =
-    let more : List Element = rule (rules.begin level.place) ∷ (h.1 ++ rule (rules.finish place) ∷ []) in
-    let leads : Lead 0 more 0 = into (lead-append (rule (rules.finish place) ∷ []) (lead-deeper h.3) (out nowhere)) in
+open-end : (before : List Element) (offset : ℕ) (level o m : Level) (outer : List Level) → m.offset ≡ o.offset
+    → Open before level (o ∷ outer) → Open (before ++ rule (rules.finish offset) ∷ []) m outer
+open-end before offset level o m outer same h =
+    let more : List Element = rule (rules.begin level.offset) ∷ (h.1 ++ rule (rules.finish offset) ∷ []) in
+    let leads : Lead 0 more 0 = into (lead-append (rule (rules.finish offset) ∷ []) (lead-deeper h.3) (out nowhere)) in
     subst (λ es. Open es m outer)
-    (sym (append_assoc h.0 (rule (rules.begin level.place) ∷ h.1) (rule (rules.finish place) ∷ []))
-    ∙ ap (λ es. es ++ rule (rules.finish place) ∷ []) (sym h.2))
+    (sym (append_assoc h.0 (rule (rules.begin level.offset) ∷ h.1) (rule (rules.finish offset) ∷ []))
+    ∙ ap (λ es. es ++ rule (rules.finish offset) ∷ []) (sym h.2))
     (open-on h.0 more o m outer same leads h.4)
 
 module _ (line_rules : LineRules) (words : List Phrase) where
@@ -100,9 +100,9 @@ module _ (line_rules : LineRules) (words : List Phrase) where
   data Fault (before es : List Element) (s : State) (e : MarkupFault) : Type 0 where
     early : {front : List Element} (after : List Element) {x : Element} {depth : ℕ} → before ++ es ≡ front ++ x ∷ after
         → AreSound 0 front depth → IsAtFault depth x e → Fault before es s e
-    left_open : (front : List Element) {following : List Element} {place depth : ℕ}
-        → before ++ es ≡ front ++ rule (rules.begin place) ∷ following → AreSound 0 (before ++ es) (suc depth)
-        → Lead 0 following 0 → fault_at place NotEnded ≡ e → Fault before es s e
+    left_open : (front : List Element) {following : List Element} {offset depth : ℕ}
+        → before ++ es ≡ front ++ rule (rules.begin offset) ∷ following → AreSound 0 (before ++ es) (suc depth)
+        → Lead 0 following 0 → fault_at offset NotEnded ≡ e → Fault before es s e
     late : {items : List Item} {ps : List Node} (original : List ℕ) → AreItems line_rules words before es items
         → run s.level.parts (parts_in s.outer) items ≡ Some ps → whole ps original ≡ Err e → Fault before es s e
 
@@ -131,18 +131,18 @@ module _ (line_rules : LineRules) (words : List Phrase) where
   end_by before s e (o ∷ os) some sound opens is =
       left_open opens.0 (append-nil before ∙ opens.2)
       (subst (λ l. AreSound 0 l (suc (length os))) (sym (append-nil before)) sound) opens.3
-      (same_fault (fault_at s.level.place NotEnded) e is)
+      (same_fault (fault_at s.level.offset NotEnded) e is)
 
-  variable_by : (es before : List Element) (s : State) (e : MarkupFault) (name original : List ℕ) (place : ℕ)
+  variable_by : (es before : List Element) (s : State) (e : MarkupFault) (name original : List ℕ) (offset : ℕ)
       (pattern : List ℕ) → Faulty es → AreSound 0 before (length s.outer) → Open before s.level s.outer
       → (p : Result Tree EreFault) → ere.reading pattern ≡ p
-      → then line_rules words (meet_variable name original place p s) es ≡ Err e
-      → Fault before (rule (rules.variable name original place pattern) ∷ es) s e
-  variable_by es before s e name original place pattern others sound opens (Err d) was is =
-      early es refl sound (subst (IsAtFault (length s.outer) (rule (rules.variable name original place pattern)))
-      (same_fault (reported place d) e is) (bad_pattern was))
-  variable_by es before s e name original place pattern others sound opens (Ok tree) was is =
-      let x : Element = rule (rules.variable name original place pattern) in
+      → then line_rules words (meet_variable name original offset p s) es ≡ Err e
+      → Fault before (rule (rules.variable name original offset pattern) ∷ es) s e
+  variable_by es before s e name original offset pattern others sound opens (Err d) was is =
+      early es refl sound (subst (IsAtFault (length s.outer) (rule (rules.variable name original offset pattern)))
+      (same_fault (reported offset d) e is) (bad_pattern was))
+  variable_by es before s e name original offset pattern others sound opens (Ok tree) was is =
+      let x : Element = rule (rules.variable name original offset pattern) in
       let spelled : IsPattern pattern tree = reading-IsPattern pattern tree was in
       fault_back before es x s (after_variable line_rules words s name original tree) e
       (λ items are. (
@@ -150,45 +150,45 @@ module _ (line_rules : LineRules) (words : List Phrase) where
         one_item (is_variable spelled) are,
         run_variable line_rules words s name original tree items,
       ))
-      (others (before ++ x ∷ []) (after_variable line_rules words s name original tree) e (opens-variable before name original place pattern)
+      (others (before ++ x ∷ []) (after_variable line_rules words s name original tree) e (opens-variable before name original offset pattern)
       (sound-append (x ∷ []) sound (faults.variable spelled faults.none))
       (open-on before (x ∷ []) s.level _ s.outer refl (over nowhere) opens) is)
 
-  begin_by : (es before : List Element) (s : State) (e : MarkupFault) (place : ℕ) → Faulty es
+  begin_by : (es before : List Element) (s : State) (e : MarkupFault) (offset : ℕ) → Faulty es
       → s.at_start ≡ opens_line before → AreSound 0 before (length s.outer) → Open before s.level s.outer
       → (t : Bool) → nat_lt (length s.outer) max_depth ≡ t
-      → then line_rules words (cond t (Ok (after_begin line_rules words s place))
-      (Err (fault_at place TooDeep))) es ≡ Err e → Fault before (rule (rules.begin place) ∷ es) s e
-  begin_by es before s e place others starts sound opens false lt is =
+      → then line_rules words (cond t (Ok (after_begin line_rules words s offset))
+      (Err (fault_at offset TooDeep))) es ≡ Err e → Fault before (rule (rules.begin offset) ∷ es) s e
+  begin_by es before s e offset others starts sound opens false lt is =
       let deep : max_depth ≤ length s.outer = grind (arith, nat_tests) in
-      early es refl sound (subst (IsAtFault (length s.outer) (rule (rules.begin place))) (same_fault (fault_at place TooDeep) e is) (too_deep deep))
-  begin_by es before s e place others starts sound opens true lt is =
-      let x : Element = rule (rules.begin place) in
+      early es refl sound (subst (IsAtFault (length s.outer) (rule (rules.begin offset))) (same_fault (fault_at offset TooDeep) e is) (too_deep deep))
+  begin_by es before s e offset others starts sound opens true lt is =
+      let x : Element = rule (rules.begin offset) in
       let small : length s.outer < max_depth = grind (arith, nat_tests) in
-      fault_back before es x s (after_begin line_rules words s place) e
+      fault_back before es x s (after_begin line_rules words s offset) e
       (λ items are. (templates.begin ∷ items, one_item is_begin are, run_begin line_rules words s items lt))
-      (others (before ++ x ∷ []) (after_begin line_rules words s place) e (opens-begin s.at_start before place starts)
+      (others (before ++ x ∷ []) (after_begin line_rules words s offset) e (opens-begin s.at_start before offset starts)
       (sound-append (x ∷ []) sound (faults.begin small faults.none))
       (before, [], refl, nowhere, opens) is)
 
-  finish_by : (es before : List Element) (s : State) (e : MarkupFault) (place : ℕ) → Faulty es
+  finish_by : (es before : List Element) (s : State) (e : MarkupFault) (offset : ℕ) → Faulty es
       → s.at_start ≡ opens_line before → (os : List Level) → s.outer ≡ os → AreSound 0 before (length os)
       → Open before s.level os
-      → then line_rules words (meet_end place s.level os s) es ≡ Err e → Fault before (rule (rules.finish place) ∷ es) s e
-  finish_by es before s e place others starts [] none sound opens is =
-      early es refl sound (subst (IsAtFault 0 (rule (rules.finish place))) (same_fault (fault_at place EndWithoutBegin) e is) no_begin)
-  finish_by es before s e place others starts (o ∷ os) some sound opens is =
-      let x : Element = rule (rules.finish place) in
+      → then line_rules words (meet_end offset s.level os s) es ≡ Err e → Fault before (rule (rules.finish offset) ∷ es) s e
+  finish_by es before s e offset others starts [] none sound opens is =
+      early es refl sound (subst (IsAtFault 0 (rule (rules.finish offset))) (same_fault (fault_at offset EndWithoutBegin) e is) no_begin)
+  finish_by es before s e offset others starts (o ∷ os) some sound opens is =
+      let x : Element = rule (rules.finish offset) in
       let t : State = after_finish line_rules words s o os in
       fault_back before es x s t e
       (λ items are. (templates.finish ∷ items, one_item is_finish are, run_finish line_rules words s o os items some))
-      (others (before ++ x ∷ []) t e (opens-finish s.at_start before place starts)
+      (others (before ++ x ∷ []) t e (opens-finish s.at_start before offset starts)
       (sound-append (x ∷ []) sound (faults.finish faults.none))
-      (open-end before place s.level o t.level os refl opens) is)
+      (open-end before offset s.level o t.level os refl opens) is)
 
-  pub with_letters-place : (l : List ℕ) (level : Level) → (reading.with_letters l level).place ≡ level.place
-  with_letters-place [] level = refl
-  with_letters-place (c ∷ cs) level = refl
+  pub with_letters-offset : (l : List ℕ) (level : Level) → (reading.with_letters l level).offset ≡ level.offset
+  with_letters-offset [] level = refl
+  with_letters-offset (c ∷ cs) level = refl
 
   faulty : (es : List Element) → Faulty es
   unfolding read_on meet
@@ -204,34 +204,34 @@ module _ (line_rules : LineRules) (words : List Phrase) where
       ))
       (faulty es (before ++ x ∷ []) t e (opens-text s.at_start before piece starts)
       (sound-append (x ∷ []) sound (faults.piece faults.none))
-      (open-on before (x ∷ []) s.level t.level s.outer (with_letters-place _ s.level) (on nowhere) opens) is)
-  faulty (rule (rules.variable name original place pattern) ∷ es) before s e starts sound opens is =
-      variable_by es before s e name original place pattern (faulty es) sound opens (ere.reading pattern) refl is
-  faulty (rule (rules.begin place) ∷ es) before s e starts sound opens is =
-      begin_by es before s e place (faulty es) starts sound opens (nat_lt (length s.outer) max_depth) refl is
-  faulty (rule (rules.finish place) ∷ es) before s e starts sound opens is = finish_by es before s e place (faulty es) starts s.outer refl sound opens is
+      (open-on before (x ∷ []) s.level t.level s.outer (with_letters-offset _ s.level) (on nowhere) opens) is)
+  faulty (rule (rules.variable name original offset pattern) ∷ es) before s e starts sound opens is =
+      variable_by es before s e name original offset pattern (faulty es) sound opens (ere.reading pattern) refl is
+  faulty (rule (rules.begin offset) ∷ es) before s e starts sound opens is =
+      begin_by es before s e offset (faulty es) starts sound opens (nat_lt (length s.outer) max_depth) refl is
+  faulty (rule (rules.finish offset) ∷ es) before s e starts sound opens is = finish_by es before s e offset (faulty es) starts s.outer refl sound opens is
   faulty (refused d ∷ es) before s e starts sound opens is = early es refl sound (subst (IsAtFault (length s.outer) (refused d)) (same_fault d e is) of_rule)
 
   whole_by : (es : List Element) (items : List Item) (ps : List Node) (original : List ℕ) (e : MarkupFault)
       → AreItems line_rules words [] es items → run [] [] items ≡ Some ps → (token heavy : Bool)
-      → row_has_token (row ps) ≡ token → nat_lt max_weight (row_weight (row ps)) ≡ heavy
+      → sequence_has_token (sequence ps) ≡ token → nat_lt max_weight (sequence_weight (sequence ps)) ≡ heavy
       → cond (not token) (Err (fault_at 0 NoLetter))
       (cond heavy (Err (fault_at 0 TooHeavy))
-      (Ok (record { parts = ps; weight = row_weight (row ps); original = original }))) ≡ failed e
+      (Ok (record { parts = ps; weight = sequence_weight (sequence ps); original = original }))) ≡ failed e
       → IsFirstFault line_rules words es e
   whole_by es items ps original e are runs false heavy one two is =
       subst (IsFirstFault line_rules words es) (same_fault (fault_at 0 NoLetter) e is)
       (no_token are (run_spelled items ps runs) one)
   whole_by es items ps original e are runs true true one two is =
-      let over_it : max_weight < row_weight (row ps) = grind (arith, nat_tests) in
+      let over_it : max_weight < sequence_weight (sequence ps) = grind (arith, nat_tests) in
       subst (IsFirstFault line_rules words es) (same_fault (fault_at 0 TooHeavy) e is) (too_heavy are (run_spelled items ps runs) one over_it)
-  whole_by es items ps original e are runs true false one two is = not_failed (record { parts = ps; weight = row_weight (row ps); original = original }) e is
+  whole_by es items ps original e are runs true false one two is = not_failed (record { parts = ps; weight = sequence_weight (sequence ps); original = original }) e is
 
   first_by : (es : List Element) (e : MarkupFault) → Fault [] es start e → IsFirstFault line_rules words es e
   first_by es e (early after is sound at) = at_rule after is sound at
   first_by es e (left_open front is sound leads same) = subst (IsFirstFault line_rules words es) same (not_ended front is sound leads)
   first_by es e (late {items = items} {ps = ps} original are runs is) =
-      whole_by es items ps original e are runs (row_has_token (row ps)) (nat_lt max_weight (row_weight (row ps))) refl refl is
+      whole_by es items ps original e are runs (sequence_has_token (sequence ps)) (nat_lt max_weight (sequence_weight (sequence ps))) refl refl is
 
   long_by : (template : List ℕ) (e : MarkupFault) (long : Bool) → nat_lt max_length (length template) ≡ long
       → cond long (Err (fault_at 0 TooLong)) (read_elements line_rules words (elements [] 0 (located template)))

@@ -116,20 +116,20 @@ pub trim_start-shorter : (all front : List Located) → front ≡ trim_start all
 trim_start-shorter all front is = omega (arith, ap length is, length-drop (spaces all) all)
 
 -- a rule whose fields were read
-module _ (place : ℕ) (tag : Tag) (rest following_it : List Located) (values : Values) (rule : Rule) (is : rule_of place tag values ≡ Ok rule) where
+module _ (offset : ℕ) (tag : Tag) (rest following_it : List Located) (values : Values) (rule : Rule) (is : rule_of offset tag values ≡ Ok rule) where
   by_fields : (r : Result (Values × ℕ) MarkupFault) → read (trim_start rest) r ≡ Ok (values, following_it)
-      → read rest (r >>= λ fields. map_ok (λ rule. (rule, spaces rest + fields.1)) (rule_of place tag fields.0)) ≡ Ok (rule, following_it)
+      → read rest (r >>= λ fields. map_ok (λ rule. (rule, spaces rest + fields.1)) (rule_of offset tag fields.0)) ≡ Ok (rule, following_it)
   by_fields (Err e) got = absurd cc
   by_fields (Ok y) got =
       let one : y.0 ≡ values = ap (λ (r : Result (Values × List Located) MarkupFault). elim r [ Ok z ↦ z.0 | Err e ↦ values ]) got in
       let two : drop y.1 (trim_start rest) ≡ following_it = ap (λ (r : Result (Values × List Located) MarkupFault). elim r [ Ok z ↦ z.1 | Err e ↦ following_it ]) got in
-      ap (λ v. read rest (map_ok (λ rule. (rule, spaces rest + y.1)) (rule_of place tag v))) one
+      ap (λ v. read rest (map_ok (λ rule. (rule, spaces rest + y.1)) (rule_of offset tag v))) one
       ∙ ap (λ m. read rest (map_ok (λ rule. (rule, spaces rest + y.1)) m)) is
       ∙ ap (λ (l : List Located). Ok (rule, l)) (sym (drop-drop y.1 (spaces rest) rest) ∙ two)
 
-  pub read_by_fields : (front : List Located) → front ≡ trim_start rest → read front (fields_at place tag no_values 0 front) ≡ Ok (values, following_it)
-      → read rest (rule_at place tag rest) ≡ Ok (rule, following_it)
+  pub read_by_fields : (front : List Located) → front ≡ trim_start rest → read front (fields_at offset tag no_values 0 front) ≡ Ok (values, following_it)
+      → read rest (rule_at offset tag rest) ≡ Ok (rule, following_it)
   unfolding rule_at
   read_by_fields front trimmed got =
-      by_fields (fields_at place tag no_values 0 (trim_start rest))
-      (ap (λ (l : List Located). read l (fields_at place tag no_values 0 l)) (sym trimmed) ∙ got)
+      by_fields (fields_at offset tag no_values 0 (trim_start rest))
+      (ap (λ (l : List Located). read l (fields_at offset tag no_values 0 l)) (sym trimmed) ∙ got)

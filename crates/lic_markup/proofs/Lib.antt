@@ -12,7 +12,7 @@ pub mod SpelledLemmas
 pub mod PieceLemmas
 pub mod BlankLemmas
 pub mod PartTextLemmas
-pub mod PlaceLemmas
+pub mod OffsetLemmas
 pub mod PlainLemmas
 pub mod ReadingLemmas
 pub mod Spelled

@@ -1,6 +1,6 @@
 -- What follows each element in its line, from the last element on.
 use Rattle.std.proofs.Common.{◌≡◌, eqb, Bool, true, false, ◌&&◌, ◌||◌, List, [], ◌∷◌, ◌++◌, map, refl, sym, ap, ◌∙◌}
-use Rattle.lic_norm.specs.declared.pieces.Next.{Next}
+use Rattle.lic_pieces.specs.declared.pieces.Next.{Next}
 use Rattle.lic_ere.specs.Located.{Located}
 use Rattle.lic_markup.specs.Signs.{new_line}
 use Rattle.lic_markup.specs.Lines.{at_line_start, ends_line, is_space}

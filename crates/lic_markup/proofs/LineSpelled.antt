@@ -2,7 +2,7 @@
 use Rattle.std.proofs.Common.{◌≡◌, ℕ, Bool, true, false, cond, ◌==◌, ◌&&◌, ◌||◌, List, [], ◌∷◌, ◌++◌, map, reverse, refl, sym, ap, ◌∙◌, append_assoc, append-nil}
 use Rattle.std.proofs.lemmas.List.{reverse-append}
 use Rattle.lic_ere.specs.Located.{Located}
-use Rattle.lic_norm.specs.declared.pieces.Next.TheVariants as next
+use Rattle.lic_pieces.specs.declared.pieces.Next.TheVariants as next
 use Rattle.lic_markup.specs.Signs.{new_line}
 use Rattle.lic_markup.specs.Rules as rules
 use Rattle.lic_markup.specs.Elements.{Element, text, rule, refused}
@@ -19,16 +19,16 @@ line_ends-signs following (x ∷ piece) ss e = ap (λ b. x.1 == new_line || (is_
 line_ends_in-signs : (es : List Element) → line_ends_in es ≡ is_clear (signs_of es)
 line_ends_in-signs [] = refl
 line_ends_in-signs (text piece ∷ es) = line_ends-signs (line_ends_in es) piece (signs_of es) (line_ends_in-signs es)
-line_ends_in-signs (rule (rules.variable name original place pattern) ∷ es) = refl
-line_ends_in-signs (rule (rules.begin place) ∷ es) = line_ends_in-signs es
-line_ends_in-signs (rule (rules.finish place) ∷ es) = line_ends_in-signs es
+line_ends_in-signs (rule (rules.variable name original offset pattern) ∷ es) = refl
+line_ends_in-signs (rule (rules.begin offset) ∷ es) = line_ends_in-signs es
+line_ends_in-signs (rule (rules.finish offset) ∷ es) = line_ends_in-signs es
 line_ends_in-signs (refused e ∷ es) = line_ends_in-signs es
 
 counts_as-first : (e : Element) (es : List Element) → counts_as e ≡ first_rule (e ∷ es)
 counts_as-first (text piece) es = refl
-counts_as-first (rule (rules.variable name original place pattern)) es = refl
-counts_as-first (rule (rules.begin place)) es = refl
-counts_as-first (rule (rules.finish place)) es = refl
+counts_as-first (rule (rules.variable name original offset pattern)) es = refl
+counts_as-first (rule (rules.begin offset)) es = refl
+counts_as-first (rule (rules.finish offset)) es = refl
 counts_as-first (refused e) es = refl
 
 next_of-signs : (after : List Element) → next_of after ≡ cond (is_clear (signs_of after)) next.LineEnd (first_rule after)
@@ -78,14 +78,14 @@ pub opens-text : (so_far : Bool) (before : List Element) (piece : List Located) 
     → at_line_start so_far piece ≡ opens_line (before ++ text piece ∷ [])
 opens-text so_far before piece e = at_line_start-signs so_far piece (reverse (signs_of before)) e ∙ sym (opens_line-next before (text piece))
 
-pub opens-variable : (before : List Element) (name original : List ℕ) (place : ℕ) (pattern : List ℕ)
-    → false ≡ opens_line (before ++ rule (rules.variable name original place pattern) ∷ [])
-opens-variable before name original place pattern = sym (opens_line-next before (rule (rules.variable name original place pattern)))
+pub opens-variable : (before : List Element) (name original : List ℕ) (offset : ℕ) (pattern : List ℕ)
+    → false ≡ opens_line (before ++ rule (rules.variable name original offset pattern) ∷ [])
+opens-variable before name original offset pattern = sym (opens_line-next before (rule (rules.variable name original offset pattern)))
 
-pub opens-begin : (so_far : Bool) (before : List Element) (place : ℕ) → so_far ≡ opens_line before
-    → so_far ≡ opens_line (before ++ rule (rules.begin place) ∷ [])
-opens-begin so_far before place e = e ∙ sym (opens_line-next before (rule (rules.begin place)))
+pub opens-begin : (so_far : Bool) (before : List Element) (offset : ℕ) → so_far ≡ opens_line before
+    → so_far ≡ opens_line (before ++ rule (rules.begin offset) ∷ [])
+opens-begin so_far before offset e = e ∙ sym (opens_line-next before (rule (rules.begin offset)))
 
-pub opens-finish : (so_far : Bool) (before : List Element) (place : ℕ) → so_far ≡ opens_line before
-    → so_far ≡ opens_line (before ++ rule (rules.finish place) ∷ [])
-opens-finish so_far before place e = e ∙ sym (opens_line-next before (rule (rules.finish place)))
+pub opens-finish : (so_far : Bool) (before : List Element) (offset : ℕ) → so_far ≡ opens_line before
+    → so_far ≡ opens_line (before ++ rule (rules.finish offset) ∷ [])
+opens-finish so_far before offset e = e ∙ sym (opens_line-next before (rule (rules.finish offset)))

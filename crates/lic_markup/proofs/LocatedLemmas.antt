@@ -11,41 +11,41 @@ use Rattle.lic_markup.specs.declared.piece.Piece.{Piece}
 use Rattle.lic_markup.specs.Pieces.{EndsWith, characters}
 use Rattle.lic_markup.specs.Texts.{text_of}
 
-located-append : (place : ℕ) (cs ds : List ℕ) → located_from place (cs ++ ds) ≡ located_from place cs ++ located_from (place + length (encodes cs)) ds
-located-append place [] ds =
-    let same : place ≡ place + 0 = omega arith in
+located-append : (offset : ℕ) (cs ds : List ℕ) → located_from offset (cs ++ ds) ≡ located_from offset cs ++ located_from (offset + length (encodes cs)) ds
+located-append offset [] ds =
+    let same : offset ≡ offset + 0 = omega arith in
     ap (λ n. located_from n ds) same
-located-append place (c ∷ cs) ds =
-    let next : (place + len_utf8 c) + length (encodes cs) ≡ place + length (encode_utf8 c ++ encodes cs) =
+located-append offset (c ∷ cs) ds =
+    let next : (offset + len_utf8 c) + length (encodes cs) ≡ offset + length (encode_utf8 c ++ encodes cs) =
     omega (arith, length-encode c, length-append (encode_utf8 c) (encodes cs)) in
-    ap (λ (l : List Located). (place, c) ∷ l)
-    (located-append (place + len_utf8 c) cs ds ∙ ap (λ n. located_from (place + len_utf8 c) cs ++ located_from n ds) next)
+    ap (λ (l : List Located). (offset, c) ∷ l)
+    (located-append (offset + len_utf8 c) cs ds ∙ ap (λ n. located_from (offset + len_utf8 c) cs ++ located_from n ds) next)
 
 -- the characters of a text that is made of two
-pub pieces-append : (place next : ℕ) (text front rest : List ℕ) → IsUtf8 front → text ≡ front ++ rest → next ≡ place + length front
-    → located_from place (chars text) ≡ located_from place (chars front) ++ located_from next (chars rest)
-pieces-append place next text front rest utf8 is at =
-    ap (located_from place) (ap chars is ∙ chars-append front rest utf8)
-    ∙ located-append place (chars front) (chars rest)
-    ∙ ap (λ n. located_from place (chars front) ++ located_from n (chars rest))
-    (ap (λ (l : List ℕ). place + length l) (encodes-chars front utf8) ∙ sym at)
+pub pieces-append : (offset next : ℕ) (text front rest : List ℕ) → IsUtf8 front → text ≡ front ++ rest → next ≡ offset + length front
+    → located_from offset (chars text) ≡ located_from offset (chars front) ++ located_from next (chars rest)
+pieces-append offset next text front rest utf8 is at =
+    ap (located_from offset) (ap chars is ∙ chars-append front rest utf8)
+    ∙ located-append offset (chars front) (chars rest)
+    ∙ ap (λ n. located_from offset (chars front) ++ located_from n (chars rest))
+    (ap (λ (l : List ℕ). offset + length l) (encodes-chars front utf8) ∙ sym at)
 
 -- one character at the end
-pub last_left : (place : ℕ) (text front : List ℕ) (c : ℕ) → IsUtf8 front → IsScalar c → text ≡ front ++ encode_utf8 c
-    → located_from place (chars text) ≡ located_from place (chars front) ++ (place + length front, c) ∷ []
-last_left place text front c utf8 scalar is =
+pub last_left : (offset : ℕ) (text front : List ℕ) (c : ℕ) → IsUtf8 front → IsScalar c → text ≡ front ++ encode_utf8 c
+    → located_from offset (chars text) ≡ located_from offset (chars front) ++ (offset + length front, c) ∷ []
+last_left offset text front c utf8 scalar is =
     let one : chars (encode_utf8 c) ≡ c ∷ [] =
     chars_past_char (encode_utf8 c) [] c (IsUtf8-encode c scalar) (sym (append-nil (encode_utf8 c))) ∙ ap (λ l. c ∷ l) chars-nil in
-    pieces-append place (place + length front) text front (encode_utf8 c) utf8 is refl
-    ∙ ap (λ cs. located_from place (chars front) ++ located_from (place + length front) cs) one
+    pieces-append offset (offset + length front) text front (encode_utf8 c) utf8 is refl
+    ∙ ap (λ cs. located_from offset (chars front) ++ located_from (offset + length front) cs) one
 
 -- the characters of a text write it
-text_of-located : (place : ℕ) (cs : List ℕ) → text_of (located_from place cs) ≡ encodes cs
-text_of-located place [] = refl
-text_of-located place (c ∷ cs) = ap (λ l. encode_utf8 c ++ l) (text_of-located (place + len_utf8 c) cs)
+text_of-located : (offset : ℕ) (cs : List ℕ) → text_of (located_from offset cs) ≡ encodes cs
+text_of-located offset [] = refl
+text_of-located offset (c ∷ cs) = ap (λ l. encode_utf8 c ++ l) (text_of-located (offset + len_utf8 c) cs)
 
-pub text_of-piece : (place : ℕ) (text : List ℕ) → IsUtf8 text → text_of (located_from place (chars text)) ≡ text
-text_of-piece place text utf8 = text_of-located place (chars text) ∙ encodes-chars text utf8
+pub text_of-piece : (offset : ℕ) (text : List ℕ) → IsUtf8 text → text_of (located_from offset (chars text)) ≡ text
+text_of-piece offset text utf8 = text_of-located offset (chars text) ∙ encodes-chars text utf8
 
 -- what stands before the same is the same
 pub same_front : (one two rest all : List Located) → one ++ rest ≡ all → two ++ rest ≡ all → one ≡ two
@@ -90,7 +90,7 @@ module _ (all rest : Piece) (ends : EndsWith all rest) (all_utf8 : IsUtf8 all.te
     pub before_fits : length text ≤ length all.text.now
     before_fits = omega (arith, ap length before_text, before_count)
 
-    pub before_characters : located_from all.place (chars text) ++ characters rest ≡ characters all
+    pub before_characters : located_from all.offset (chars text) ++ characters rest ≡ characters all
     before_characters =
-        sym (pieces-append all.place rest.place all.text.now text rest.text.now before_utf8
-        (ends.1 ∙ ap (λ l. l ++ rest.text.now) (sym before_text)) (ends.2 ∙ ap (λ (l : List ℕ). all.place + length l) (sym before_text)))
+        sym (pieces-append all.offset rest.offset all.text.now text rest.text.now before_utf8
+        (ends.1 ∙ ap (λ l. l ++ rest.text.now) (sym before_text)) (ends.2 ∙ ap (λ (l : List ℕ). all.offset + length l) (sym before_text)))

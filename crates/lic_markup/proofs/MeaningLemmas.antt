@@ -11,12 +11,12 @@ use Rattle.lic_markup.specs.Parts.{Node, part_node, part_of}
 use Rattle.lic_markup.specs.Meaning.{node_words, parts_words, part_words}
 
 -- the words of parts in a row are those of their expressions in a row
-pub parts_words-row : (ps : List Part) → parts_words (map part_of ps) ≡ cat_all (map part_words ps)
-parts_words-row [] = refl
-parts_words-row (p ∷ ps) = ap (cat (part_words p)) (parts_words-row ps)
+pub parts_words-sequence : (ps : List Part) → parts_words (map part_of ps) ≡ cat_all (map part_words ps)
+parts_words-sequence [] = refl
+parts_words-sequence (p ∷ ps) = ap (cat (part_words p)) (parts_words-sequence ps)
 
 pub parts_words-append : (xs ys : List Part) → parts_words (map part_of (xs ++ ys)) ≡ cat_all (map part_words xs ++ map part_words ys)
-parts_words-append xs ys = parts_words-row (xs ++ ys) ∙ ap cat_all (map-append part_words xs ys)
+parts_words-append xs ys = parts_words-sequence (xs ++ ys) ∙ ap cat_all (map-append part_words xs ys)
 
 -- a text has its letters alone
 pub part_words-Text : (text : String Global) → part_words (Text text) ≡ words.letters (chars (string_bytes text))
@@ -26,4 +26,4 @@ part_words-Text text = ap node_words (ap part_of (sym (rolls-Text text)) ∙ fol
 pub part_words-Optional : (parts : Vec Part Global) → part_words (Optional parts) ≡ alt empty (cat_all (map part_words parts.items))
 part_words-Optional parts =
     ap node_words (ap part_of (sym (rolls-Optional parts)) ∙ fold-roll-Part Node part_node (Part-F.Optional parts))
-    ∙ ap (alt empty) (parts_words-row parts.items)
+    ∙ ap (alt empty) (parts_words-sequence parts.items)

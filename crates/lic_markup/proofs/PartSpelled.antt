@@ -2,7 +2,7 @@
 use Rattle.std.proofs.Common.{◌≡◌, ℕ, suc, ◌<◌, Bool, true, false, cond, ltb, List, [], ◌∷◌, ◌++◌, length, Option, Some, None, refl, sym, ap, subst, ◌∙◌, append_assoc, append-nil, arith}
 use Rattle.std.proofs.lemmas.Bool.Decides.{nat_tests}
 use Rattle.lic_markup.specs.Parts as parts
-use Rattle.lic_markup.specs.Parts.{Node, row}
+use Rattle.lic_markup.specs.Parts.{Node, sequence}
 use Rattle.lic_markup.specs.Reading.{max_depth}
 use Rattle.lic_markup.specs.Templates.{Item, letters, variable, begin, finish, AreParts, no_part, no_letters, some_letters, replaceable, optional}
 
@@ -22,7 +22,7 @@ run ps outer (letters text ∷ is) = run (with_letters text ps) outer is
 run ps outer (variable name original tree ∷ is) = run (ps ++ parts.variable name original tree ∷ []) outer is
 run ps outer (begin ∷ is) = cond (ltb (length outer) max_depth) (run [] (ps ∷ outer) is) None
 run ps [] (finish ∷ is) = None
-run ps (o ∷ outer) (finish ∷ is) = run (o ++ parts.optional (row ps) ∷ []) outer is
+run ps (o ∷ outer) (finish ∷ is) = run (o ++ parts.optional (sequence ps) ∷ []) outer is
 
 abbrev pub got : List Node → Option (List Node)
 got ps = Some ps
@@ -37,7 +37,7 @@ abbrev Completes : List Node → List (List Node) → List Item → List Node �
 Completes ps [] is all = (ns : List Node) × AreParts 0 is ns × (all ≡ ps ++ ns)
 Completes ps (o ∷ outer) is all =
     (js : List Item) × (ks : List Item) × (ns : List Node) × (is ≡ js ++ finish ∷ ks)
-    × AreParts (suc (length outer)) js ns × Completes (o ++ parts.optional (row (ps ++ ns)) ∷ []) outer ks all
+    × AreParts (suc (length outer)) js ns × Completes (o ++ parts.optional (sequence (ps ++ ns)) ∷ []) outer ks all
 
 -- one more item, which gives some parts
 one_item : (i : Item) (ps extra : List Node) (outer : List (List Node)) (is : List Item) (all : List Node)
@@ -50,7 +50,7 @@ one_item i ps extra (o ∷ outer) is all each h = (
   extra ++ h.2,
   ap (λ l. i ∷ l) h.3,
   each _ _ _ h.4,
-  subst (λ l. Completes (o ++ parts.optional (row l) ∷ []) outer h.1 all) (append_assoc ps extra h.2) h.5,
+  subst (λ l. Completes (o ++ parts.optional (sequence l) ∷ []) outer h.1 all) (append_assoc ps extra h.2) h.5,
 )
 
 letters_item : (text : List ℕ) (ps : List Node) (outer : List (List Node)) (is : List Item) (all : List Node)
@@ -63,11 +63,11 @@ letters_item (c ∷ cs) ps outer is all h = one_item (letters (c ∷ cs)) ps (pa
 begin_item : (ps : List Node) (outer : List (List Node)) (is : List Item) (all : List Node) → length outer < max_depth
     → Completes [] (ps ∷ outer) is all → Completes ps outer (begin ∷ is) all
 begin_item ps [] is all small h =
-    let opt : Node = parts.optional (row h.2) in
+    let opt : Node = parts.optional (sequence h.2) in
     let ms = h.5.0 in
     (opt ∷ ms, subst (λ l. AreParts 0 (begin ∷ l) (opt ∷ ms)) (sym h.3) (optional small h.4 h.5.1), h.5.2 ∙ append_assoc ps (opt ∷ []) ms)
 begin_item ps (o ∷ outer) is all small h =
-    let opt : Node = parts.optional (row h.2) in
+    let opt : Node = parts.optional (sequence h.2) in
     let more = h.5 in
     let js : List Item = begin ∷ (h.0 ++ finish ∷ more.0) in
     let cut : begin ∷ is ≡ js ++ finish ∷ more.1 =
@@ -77,7 +77,7 @@ begin_item ps (o ∷ outer) is all small h =
       opt ∷ more.2,
       cut,
       optional small h.4 more.4,
-      subst (λ l. Completes (o ++ parts.optional (row l) ∷ []) outer more.1 all)
+      subst (λ l. Completes (o ++ parts.optional (sequence l) ∷ []) outer more.1 all)
           (append_assoc ps (opt ∷ []) more.2) more.5,
     )
 
@@ -109,8 +109,8 @@ sound (finish ∷ is) ps (o ∷ outer) all e = (
   [],
   refl,
   no_part,
-  subst (λ l. Completes (o ++ parts.optional (row l) ∷ []) outer is all)
-      (sym (append-nil ps)) (sound is (o ++ parts.optional (row ps) ∷ []) outer all e),
+  subst (λ l. Completes (o ++ parts.optional (sequence l) ∷ []) outer is all)
+      (sym (append-nil ps)) (sound is (o ++ parts.optional (sequence ps) ∷ []) outer all e),
 )
 
 pub run_spelled : (is : List Item) (ns : List Node) → run [] [] is ≡ Some ns → AreParts 0 is ns
@@ -133,7 +133,7 @@ spelled_by (replaceable {name = name} {original = original} {tree = tree} {ns = 
     spelled_by others (ps ++ parts.variable name original tree ∷ []) outer deep more
     ∙ ap (λ (l : List Node). run l outer more) (append_assoc ps (parts.variable name original tree ∷ []) ns)
 spelled_by (optional {depth = depth} {is = is} {js = js} {ns = ns} {ms = ms} small inner others) ps outer deep more =
-    let opt : Node = parts.optional (row ns) in
+    let opt : Node = parts.optional (sequence ns) in
     let test : ltb (length outer) max_depth ≡ true = grind (arith, nat_tests, deep, small) in
     ap (λ b. cond b (run [] (ps ∷ outer) ((is ++ finish ∷ js) ++ more)) None) test
     ∙ ap (run [] (ps ∷ outer)) (append_assoc is (finish ∷ js) more)

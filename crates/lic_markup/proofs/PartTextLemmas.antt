@@ -7,11 +7,11 @@ use Rattle.lic_ere.specs.declared.fault.EreFault.{EreFault}
 use Rattle.lic_kind.specs.LineRules.{LineRules}
 use Rattle.lic_phrases.specs.Rewriting.{Phrase}
 use Rattle.lic_phrases.specs.TokenTexts.{IsTokenText}
-use Rattle.lic_norm.specs.PieceTexts.{IsPieceText}
-use Rattle.lic_norm.specs.Pieces.{piece_cells, piece_of}
-use Rattle.lic_norm.specs.declared.pieces.Next.{Next}
+use Rattle.lic_pieces.specs.PieceTexts.{IsPieceText}
+use Rattle.lic_pieces.specs.Pieces.{piece_cells, piece_of}
+use Rattle.lic_pieces.specs.declared.pieces.Next.{Next}
 use Rattle.lic_markup.specs.Meaning.{piece_texts}
-use Rattle.lic_markup.specs.Parts.{Node, letters, variable, optional, row}
+use Rattle.lic_markup.specs.Parts.{Node, letters, variable, optional, sequence}
 use Rattle.lic_markup.specs.PartTexts.{HasPieceTexts, HavePieceTexts}
 use Rattle.lic_markup.specs.Reading.{Level, State, with_letters, meet_variable, meet_end}
 use Rattle.lic_markup.specs.ReadTexts.{HoldPieceTexts, HasReadTexts}
@@ -30,12 +30,12 @@ piece_of-text rules words at_line_start before piece utf8 token =
 
 -- ---- one more part
 
-pushed : (ns : List Node) (n : Node) → HavePieceTexts (row ns) → HasPieceTexts n → HavePieceTexts (row (ns ++ n ∷ []))
+pushed : (ns : List Node) (n : Node) → HavePieceTexts (sequence ns) → HasPieceTexts n → HavePieceTexts (sequence (ns ++ n ∷ []))
 pushed [] n so_far here = (here, tt)
 pushed (m ∷ ns) n so_far here = (so_far.0, pushed ns n so_far.1 here)
 
 pub with_letters-texts : (text : List ℕ) (l : Level) → IsUtf8 text → IsPieceText text
-    → HavePieceTexts (row l.parts) → HavePieceTexts (row (with_letters text l).parts)
+    → HavePieceTexts (sequence l.parts) → HavePieceTexts (sequence (with_letters text l).parts)
 with_letters-texts [] l utf8 text so_far = so_far
 with_letters-texts (b ∷ bs) l utf8 text so_far = pushed l.parts (letters (b ∷ bs)) so_far (omega arith, utf8, text)
 
@@ -45,19 +45,19 @@ ok_same : {E : Type 0} (s t u : State) (r : Result State E) → r ≡ Ok u → r
 ok_same s t u r is also = ap (λ (o : Result State _). elim o [ Ok x ↦ x | Err e ↦ s ]) (sym is ∙ also)
 
 module _ (s t : State) (so_far : HasReadTexts s) where
-  variable_texts : (name original : List ℕ) (place : ℕ) (read : Result Tree EreFault)
-      → meet_variable name original place read s ≡ Ok t → HasReadTexts t
-  variable_texts name original place (Ok tree) is =
-      subst HasReadTexts (ok_same s t _ (meet_variable name original place (Ok tree) s) refl is)
+  variable_texts : (name original : List ℕ) (offset : ℕ) (read : Result Tree EreFault)
+      → meet_variable name original offset read s ≡ Ok t → HasReadTexts t
+  variable_texts name original offset (Ok tree) is =
+      subst HasReadTexts (ok_same s t _ (meet_variable name original offset (Ok tree) s) refl is)
       (pushed s.level.parts (variable name original tree) so_far.0 tt, so_far.1)
-  variable_texts name original place (Err e) is = absurd cc
+  variable_texts name original offset (Err e) is = absurd cc
 
-  end_texts : (place : ℕ) (level : Level) (outer : List Level) → HavePieceTexts (row level.parts) → HoldPieceTexts outer
-      → meet_end place level outer s ≡ Ok t → HasReadTexts t
-  end_texts place level [] inner others is = absurd cc
-  end_texts place level (o ∷ outer) inner others is =
-      subst HasReadTexts (ok_same s t _ (meet_end place level (o ∷ outer) s) refl is)
-      (pushed o.parts (optional (row level.parts)) others.0 inner, others.1)
+  end_texts : (offset : ℕ) (level : Level) (outer : List Level) → HavePieceTexts (sequence level.parts) → HoldPieceTexts outer
+      → meet_end offset level outer s ≡ Ok t → HasReadTexts t
+  end_texts offset level [] inner others is = absurd cc
+  end_texts offset level (o ∷ outer) inner others is =
+      subst HasReadTexts (ok_same s t _ (meet_end offset level (o ∷ outer) s) refl is)
+      (pushed o.parts (optional (sequence level.parts)) others.0 inner, others.1)
 
   -- what a rule gives, or nothing
   gives_texts : {X : Type 0} (r : Result X MarkupFault) (read : Result State MarkupFault) → Gives (λ _. t) r read
@@ -65,12 +65,12 @@ module _ (s t : State) (so_far : HasReadTexts s) where
   gives_texts (Ok x) read gives texts = texts gives
   gives_texts (Err e) read gives texts = tt
 
-  pub meet_variable-texts : {X : Type 0} (r : Result X MarkupFault) (name original : List ℕ) (place : ℕ) (read : Result Tree EreFault)
-      → Gives (λ _. t) r (meet_variable name original place read s) → OnOk r (HasReadTexts t)
-  meet_variable-texts r name original place read gives =
-      gives_texts r (meet_variable name original place read s) gives (variable_texts name original place read)
+  pub meet_variable-texts : {X : Type 0} (r : Result X MarkupFault) (name original : List ℕ) (offset : ℕ) (read : Result Tree EreFault)
+      → Gives (λ _. t) r (meet_variable name original offset read s) → OnOk r (HasReadTexts t)
+  meet_variable-texts r name original offset read gives =
+      gives_texts r (meet_variable name original offset read s) gives (variable_texts name original offset read)
 
-  pub meet_end-texts : {X : Type 0} (r : Result X MarkupFault) (place : ℕ)
-      → Gives (λ _. t) r (meet_end place s.level s.outer s) → OnOk r (HasReadTexts t)
-  meet_end-texts r place gives =
-      gives_texts r (meet_end place s.level s.outer s) gives (end_texts place s.level s.outer so_far.0 so_far.1)
+  pub meet_end-texts : {X : Type 0} (r : Result X MarkupFault) (offset : ℕ)
+      → Gives (λ _. t) r (meet_end offset s.level s.outer s) → OnOk r (HasReadTexts t)
+  meet_end-texts r offset gives =
+      gives_texts r (meet_end offset s.level s.outer s) gives (end_texts offset s.level s.outer so_far.0 so_far.1)

@@ -13,8 +13,8 @@ use Rattle.lic_lines.specs.Tokens.{both_words, tokens_from, single_signs}
 use Rattle.lic_phrases.specs.Rewriting.{Phrase, rewritten}
 use Rattle.lic_phrases.specs.Spelling.{blank_if, spelled}
 use Rattle.lic_phrases.specs.TokenTexts.{IsTokenText}
-use Rattle.lic_norm.specs.Pieces.{piece_cells, piece_tokens, is_blank, begins_in_blank, ends_in_blank, piece_of}
-use Rattle.lic_norm.specs.declared.pieces.Next.{Next}
+use Rattle.lic_pieces.specs.Pieces.{piece_cells, piece_tokens, is_blank, begins_in_blank, ends_in_blank, piece_of}
+use Rattle.lic_pieces.specs.declared.pieces.Next.{Next}
 use Rattle.lic_words.specs.Describing.{IsDescribed}
 use Rattle.lic_words.specs.Expressions.{Language}
 use Rattle.lic_words.specs.Spelling.{Spells}

@@ -6,8 +6,8 @@ use Rattle.std.specs.Str.{chars, IsUtf8}
 use Rattle.lic_ere.specs.Located.{Located, located, located_from}
 use Rattle.lic_phrases.specs.Rewriting.{Phrase}
 use Rattle.lic_kind.specs.LineRules.{LineRules}
-use Rattle.lic_norm.specs.Pieces.{piece_of}
-use Rattle.lic_norm.specs.declared.pieces.Next.TheVariants.{LineEnd}
+use Rattle.lic_pieces.specs.Pieces.{piece_of}
+use Rattle.lic_pieces.specs.declared.pieces.Next.TheVariants.{LineEnd}
 use Rattle.lic_markup.specs.declared.fault.MarkupFault.{MarkupFault}
 use Rattle.lic_markup.specs.declared.fault.MarkupCause.TheVariants.{TooLong, NoLetter, TooHeavy}
 use Rattle.lic_markup.specs.Signs.{less}
@@ -15,16 +15,16 @@ use Rattle.lic_markup.specs.Texts.{text_of}
 use Rattle.lic_markup.specs.Faults.{fault_at}
 use Rattle.lic_markup.specs.Elements.{text, elements}
 use Rattle.lic_markup.specs.Lines.{ends_line}
-use Rattle.lic_markup.specs.Parts.{Node, Reading, letters, row, row_has_token, row_weight}
+use Rattle.lic_markup.specs.Parts.{Node, Reading, letters, sequence, sequence_has_token, sequence_weight}
 use Rattle.lic_markup.specs.Reading.{max_length, max_weight, meet, new_level, read_elements, read_on, reading, whole, with_letters}
 use Rattle.lic_markup.proofs.LocatedLemmas.{text_of-piece}
 use Rattle.lic_markup.proofs.SignLemmas.{sign-located}
-use Rattle.lic_markup.proofs.ElementLemmas.{plain_row, elements-end}
+use Rattle.lic_markup.proofs.ElementLemmas.{plain_sequence, elements-end}
 
 one_piece : (cs : List ℕ) → list_any (λ c. c == less) cs ≡ false → elements [] 0 (located_from 0 cs) ≡ text (located_from 0 cs) ∷ []
 one_piece cs none =
     let all : List Located = located_from 0 cs in
-    ap (elements [] 0) (sym (append-nil all)) ∙ plain_row [] all [] (sign-located 0 cs ∙ none) ∙ elements-end all [] refl
+    ap (elements [] 0) (sym (append-nil all)) ∙ plain_sequence [] all [] (sign-located 0 cs ∙ none) ∙ elements-end all [] refl
 
 -- ---- what is read of it
 
@@ -51,7 +51,7 @@ accepted_parts false heavy x r h = absurd (no_ok (fault_at 0 NoLetter) r h)
 accepted_parts true true x r h = absurd (no_ok (fault_at 0 TooHeavy) r h)
 accepted_parts true false x r h = (refl, same_ok x r h)
 
-one_part : (text : List ℕ) → row_has_token (row (with_letters text (new_level 0)).parts) ≡ true → (with_letters text (new_level 0)).parts ≡ letters text ∷ []
+one_part : (text : List ℕ) → sequence_has_token (sequence (with_letters text (new_level 0)).parts) ≡ true → (with_letters text (new_level 0)).parts ≡ letters text ∷ []
 one_part [] h = absurd cc
 one_part (c ∷ cs) h = refl
 
@@ -76,7 +76,7 @@ module _ (rules : LineRules) (words : List Phrase) where
       let same : text_of (located template) ≡ template = text_of-piece 0 template utf8 in
       let one : read_elements rules words (elements [] 0 (located template)) ≡ whole (parts template) template =
       ap (read_elements rules words) (one_piece (chars template) none) ∙ read_one (located template) ∙ ap (λ t. whole (parts t) t) same in
-      let x : Reading = record { parts = parts template; weight = row_weight (row (parts template)); original = template } in
-      let known = accepted_parts (row_has_token (row (parts template))) (nat_lt max_weight (row_weight (row (parts template)))) x r
+      let x : Reading = record { parts = parts template; weight = sequence_weight (sequence (parts template)); original = template } in
+      let known = accepted_parts (sequence_has_token (sequence (parts template))) (nat_lt max_weight (sequence_weight (sequence (parts template)))) x r
       (sym one ∙ accepted (nat_lt max_length (length template)) (read_elements rules words (elements [] 0 (located template))) r read) in
       ap (λ (y : Reading). y.parts) (sym known.1) ∙ one_part (piece_of rules words true LineEnd template) known.0

@@ -3,7 +3,7 @@ use Rattle.std.proofs.Common.{◌≡◌, List, [], ◌∷◌, ◌++◌, map, rev
 use Rattle.std.proofs.lemmas.List.{reverse-append}
 use Rattle.lic_kind.specs.LineRules.{LineRules}
 use Rattle.lic_phrases.specs.Rewriting.{Phrase}
-use Rattle.lic_norm.specs.declared.pieces.Next.{Next}
+use Rattle.lic_pieces.specs.declared.pieces.Next.{Next}
 use Rattle.lic_markup.specs.declared.fault.MarkupFault.{MarkupFault}
 use Rattle.lic_markup.specs.declared.elements.Element as coded
 use Rattle.lic_markup.specs.Faults.{◌>>=◌}

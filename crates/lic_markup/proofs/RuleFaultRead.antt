@@ -7,7 +7,7 @@ use Rattle.lic_markup.specs.declared.rule.tag.Tag.{Tag}
 use Rattle.lic_markup.specs.declared.fault.MarkupFault.{MarkupFault}
 use Rattle.lic_markup.specs.declared.fault.MarkupCause.TheVariants.{NotClosed, FieldMissing, NoEquals}
 use Rattle.lic_markup.specs.Signs.{double_quote, semicolon, equals, greater, backslash}
-use Rattle.lic_markup.specs.Texts.{text_of, place_of, begins_with, begins_with_two, spaces, trim_end, trim_start}
+use Rattle.lic_markup.specs.Texts.{text_of, offset_of, begins_with, begins_with_two, spaces, trim_end, trim_start}
 use Rattle.lic_markup.specs.Faults.{fault_at, map_ok, ◌>>=◌}
 use Rattle.lic_markup.specs.Rules.{Values, no_values, field_of, has_value, with_value, one_more, name_at, quoted_at, plain_at, value_at, field_at, fields_at, Rule, rule_of, rule_at}
 use Rattle.lic_markup.specs.Markup.{UpTo, IsTag, ends_field, ends_name, ends_quote}
@@ -69,40 +69,40 @@ module _ (rule : ℕ) (tag : Tag) (values : Values) (names : List (List ℕ)) (h
   named : (cs name following : List Located) (sign : Located) (t : Bool) → UpTo ends_name cs name (sign ∷ following)
       → sign.1 ≡ equals → is_second tag (text_of (trim_end name)) names ≡ t
       → (k : ℕ) × (drop k cs ≡ following)
-      × (field_at rule (place_of cs) tag values cs
-      ≡ value_then rule (place_of cs) tag values cs t (meaning rule (place_of cs) tag values (name, k)) (name, k))
+      × (field_at rule (offset_of cs) tag values cs
+      ≡ value_then rule (offset_of cs) tag values cs t (meaning rule (offset_of cs) tag values (name, k)) (name, k))
   named cs name following sign t up is second =
-      let first = read_was cs (name_at rule (place_of cs) cs) name following (name_read rule (place_of cs) name sign cs following up is) in (
+      let first = read_was cs (name_at rule (offset_of cs) cs) name following (name_read rule (offset_of cs) name sign cs following up is) in (
         first.0,
         first.2,
-        field_is rule (place_of cs) tag values cs
+        field_is rule (offset_of cs) tag values cs
             ∙ ap (λ (r : Result (List Located × ℕ) MarkupFault). r >>= λ name.
-            value_then rule (place_of cs) tag values cs
-            (has_value (meaning rule (place_of cs) tag values name) values)
-            (meaning rule (place_of cs) tag values name) name) first.1
-            ∙ ap (λ b. value_then rule (place_of cs) tag values cs b (meaning rule (place_of cs) tag values (name, first.0)) (name, first.0))
+            value_then rule (offset_of cs) tag values cs
+            (has_value (meaning rule (offset_of cs) tag values name) values)
+            (meaning rule (offset_of cs) tag values name) name) first.1
+            ∙ ap (λ b. value_then rule (offset_of cs) tag values cs b (meaning rule (offset_of cs) tag values (name, first.0)) (name, first.0))
             (second_is values (text_of (trim_end name)) names tag held ∙ second),
       )
 
-  field_refused : (cs : List Located) {e : MarkupFault} → IsFieldFault rule tag names cs e → field_at rule (place_of cs) tag values cs ≡ Err e
+  field_refused : (cs : List Located) {e : MarkupFault} → IsFieldFault rule tag names cs e → field_at rule (offset_of cs) tag values cs ≡ Err e
   field_refused cs (open_name n) =
-      field_is rule (place_of cs) tag values cs
+      field_is rule (offset_of cs) tag values cs
       ∙ ap (λ (r : Result (List Located × ℕ) MarkupFault). r >>= λ name.
-      value_then rule (place_of cs) tag values cs
-      (has_value (meaning rule (place_of cs) tag values name) values)
-      (meaning rule (place_of cs) tag values name) name) (name_open rule (place_of cs) cs n)
+      value_then rule (offset_of cs) tag values cs
+      (has_value (meaning rule (offset_of cs) tag values name) values)
+      (meaning rule (offset_of cs) tag values name) name) (name_open rule (offset_of cs) cs n)
   field_refused cs (no_equals {name = name} {rest = rest} up other) =
-      field_is rule (place_of cs) tag values cs
+      field_is rule (offset_of cs) tag values cs
       ∙ ap (λ (r : Result (List Located × ℕ) MarkupFault). r >>= λ name.
-      value_then rule (place_of cs) tag values cs
-      (has_value (meaning rule (place_of cs) tag values name) values)
-      (meaning rule (place_of cs) tag values name) name) (name_unequal rule (place_of cs) name cs rest up other)
+      value_then rule (offset_of cs) tag values cs
+      (has_value (meaning rule (offset_of cs) tag values name) values)
+      (meaning rule (offset_of cs) tag values name) name) (name_unequal rule (offset_of cs) name cs rest up other)
   field_refused cs (twice {name = name} {following = following} {sign = sign} up is second) = (named cs name following sign true up is second).2
   field_refused cs (open_value {name = name} {following = following} {sign = sign} up is second value) =
       let was = named cs name following sign false up is second in
       was.2
       ∙ ap (map_ok {A = List Located × ℕ} (λ value. (
-        with_value (meaning rule (place_of cs) tag values (name, was.0)) value.0 values,
+        with_value (meaning rule (offset_of cs) tag values (name, was.0)) value.0 values,
         was.0 + (spaces (drop was.0 cs) + value.1),
       ))) (ap (λ (l : List Located). value_at rule (trim_start l)) was.1 ∙ value_open rule value)
 
@@ -136,11 +136,11 @@ module _ (rule : ℕ) (tag : Tag) where
 
 -- the rule that is made of the fields
 abbrev made : ℕ → Tag → Result (Values × List Located) MarkupFault → Result (Rule × List Located) MarkupFault
-made place tag r = r >>= λ y. map_ok (λ rule. (rule, y.1)) (rule_of place tag y.0)
+made offset tag r = r >>= λ y. map_ok (λ rule. (rule, y.1)) (rule_of offset tag y.0)
 
-made_is : (place : ℕ) (tag : Tag) (following : List Located)
-    → read following (rule_at place tag following) ≡ made place tag (fields_of place tag no_values (trim_start following))
-made_is place tag following = ap (read following) (rule_is place tag following) ∙ by (fields_at place tag no_values 0 (trim_start following))
+made_is : (offset : ℕ) (tag : Tag) (following : List Located)
+    → read following (rule_at offset tag following) ≡ made offset tag (fields_of offset tag no_values (trim_start following))
+made_is offset tag following = ap (read following) (rule_is offset tag following) ∙ by (fields_at offset tag no_values 0 (trim_start following))
   where
     of_rule : (y : Values × ℕ) (m : Result Rule MarkupFault)
         → read following (map_ok (λ rule. (rule, spaces following + y.1)) m) ≡ map_ok (λ rule. (rule, drop y.1 (trim_start following))) m
@@ -148,70 +148,70 @@ made_is place tag following = ap (read following) (rule_is place tag following) 
     of_rule y (Err e) = refl
 
     by : (r : Result (Values × ℕ) MarkupFault)
-        → read following (r >>= rule_then place tag following) ≡ made place tag (read (trim_start following) r)
-    by (Ok y) = of_rule y (rule_of place tag y.0)
+        → read following (r >>= rule_then offset tag following) ≡ made offset tag (read (trim_start following) r)
+    by (Ok y) = of_rule y (rule_of offset tag y.0)
     by (Err e) = refl
 
-module _ (place : ℕ) (tag : Tag) (values : Values) (names : List (List ℕ)) (held : HeldFor tag values names) where
-  not_closed_here : (cs : List Located) → ends_field cs ≡ false → fields_of place tag values cs ≡ Err (fault_at place NotClosed)
-  not_closed_here [] h = fields-open place tag values [] refl
+module _ (offset : ℕ) (tag : Tag) (values : Values) (names : List (List ℕ)) (held : HeldFor tag values names) where
+  not_closed_here : (cs : List Located) → ends_field cs ≡ false → fields_of offset tag values cs ≡ Err (fault_at offset NotClosed)
+  not_closed_here [] h = fields-open offset tag values [] refl
   not_closed_here (x ∷ cs) h =
       let no = neither (begins_with semicolon (x ∷ cs)) (begins_with_two greater (x ∷ cs)) h in
-      fields-refused place tag values (x ∷ cs) x cs refl no.1 no.0
+      fields-refused offset tag values (x ∷ cs) x cs refl no.1 no.0
 
   field_here : (x : Located) (cs : List Located) {e : MarkupFault} → x.1 ≡ semicolon → (front : List Located)
-      → front ≡ trim_start cs → ends_field front ≡ false → IsFieldFault place tag names front e
-      → fields_of place tag values (x ∷ cs) ≡ Err e
+      → front ≡ trim_start cs → ends_field front ≡ false → IsFieldFault offset tag names front e
+      → fields_of offset tag values (x ∷ cs) ≡ Err e
   field_here x cs {e = e} is [] at goes_on fault =
-      let only : fault_at place NotClosed ≡ e =
-      same_fault {A = Values × ℕ} _ e (sym (none_there values) ∙ field_refused place tag values names held [] fault) in
-      sym (fields_turn place tag values x cs (x ∷ cs) [] values [] (fields_of place tag values (x ∷ cs)) refl at
-      (not_two_signs place tag x cs is) (eq-eqb x.1 semicolon is) refl refl)
-      ∙ fields-open place tag values [] refl ∙ ap (λ (d : MarkupFault). failed d) only
+      let only : fault_at offset NotClosed ≡ e =
+      same_fault {A = Values × ℕ} _ e (sym (none_there values) ∙ field_refused offset tag values names held [] fault) in
+      sym (fields_turn offset tag values x cs (x ∷ cs) [] values [] (fields_of offset tag values (x ∷ cs)) refl at
+      (not_two_signs offset tag x cs is) (eq-eqb x.1 semicolon is) refl refl)
+      ∙ fields-open offset tag values [] refl ∙ ap (λ (d : MarkupFault). failed d) only
     where
-      none_there : (values : Values) → field_at place 0 tag values [] ≡ failed (fault_at place NotClosed)
+      none_there : (values : Values) → field_at offset 0 tag values [] ≡ failed (fault_at offset NotClosed)
       none_there values =
-          field_is place 0 tag values []
+          field_is offset 0 tag values []
           ∙ ap (λ (r : Result (List Located × ℕ) MarkupFault). r >>= λ name.
-          value_then place 0 tag values [] (has_value (meaning place 0 tag values name) values)
-          (meaning place 0 tag values name) name) (name-open place 0 [] refl)
+          value_then offset 0 tag values [] (has_value (meaning offset 0 tag values name) values)
+          (meaning offset 0 tag values name) name) (name-open offset 0 [] refl)
   field_here x cs {e = e} is (z ∷ zs) at goes_on fault =
-      fields_fail place tag values x cs (x ∷ cs) (z ∷ zs) e refl at (not_two_signs place tag x cs is)
+      fields_fail offset tag values x cs (x ∷ cs) (z ∷ zs) e refl at (not_two_signs offset tag x cs is)
       (eq-eqb x.1 semicolon is)
-      (ap (λ b. read (z ∷ zs) (cond b (Ok (values, 0)) (field_at place z.0 tag values (z ∷ zs)))) goes_on
-      ∙ ap (read (z ∷ zs)) (field_refused place tag values names held (z ∷ zs) fault))
+      (ap (λ b. read (z ∷ zs) (cond b (Ok (values, 0)) (field_at offset z.0 tag values (z ∷ zs)))) goes_on
+      ∙ ap (read (z ∷ zs)) (field_refused offset tag values names held (z ∷ zs) fault))
 
   missing_here : (cs : List Located) → begins_with_two greater cs ≡ true
-      → rule_of place tag values ≡ Err (fault_at place FieldMissing)
-      → made place tag (fields_of place tag values cs) ≡ Err (fault_at place FieldMissing)
+      → rule_of offset tag values ≡ Err (fault_at offset FieldMissing)
+      → made offset tag (fields_of offset tag values cs) ≡ Err (fault_at offset FieldMissing)
   missing_here [] ends lacking = absurd (false≢true ends)
   missing_here (x ∷ cs) ends lacking =
-      ap (made place tag) (fields-end place tag values (x ∷ cs) x cs refl ends)
+      ap (made offset tag) (fields-end offset tag values (x ∷ cs) x cs refl ends)
       ∙ ap (map_ok {A = Rule} (λ rule. (rule, drop 2 (x ∷ cs)))) lacking
 
-  fault_refused : {cs : List Located} {e : MarkupFault} → IsFaultAfter place tag names cs e
-      → made place tag (fields_of place tag values cs) ≡ Err e
-  fault_refused (not_closed {cs = cs} h) = ap (made place tag) (not_closed_here cs h)
-  fault_refused (in_field {x = x} {cs = cs} is goes_on fault) = ap (made place tag) (field_here x cs is (trim_start cs) refl goes_on fault)
-  fault_refused (missing {cs = cs} name ends some absent) = missing_here cs ends (lacks place names tag values name held some absent)
+  fault_refused : {cs : List Located} {e : MarkupFault} → IsFaultAfter offset tag names cs e
+      → made offset tag (fields_of offset tag values cs) ≡ Err e
+  fault_refused (not_closed {cs = cs} h) = ap (made offset tag) (not_closed_here cs h)
+  fault_refused (in_field {x = x} {cs = cs} is goes_on fault) = ap (made offset tag) (field_here x cs is (trim_start cs) refl goes_on fault)
+  fault_refused (missing {cs = cs} name ends some absent) = missing_here cs ends (lacks offset names tag values name held some absent)
 
 -- a rule at fault, and where it is refused
 pub record WasRefused (cs : List Located) (e : MarkupFault) : Type 0 where
   pub tag : Tag
   pub following : List Located
   pub is : IsTag cs following tag
-  pub refuses : rule_at (place_of cs) tag following ≡ Err e
+  pub refuses : rule_at (offset_of cs) tag following ≡ Err e
 
 -- a rule at fault is refused by its fault
 pub rule_refused : {cs : List Located} {e : MarkupFault} → IsRuleFault cs e → WasRefused cs e
 rule_refused {cs = cs} {e = e} (at_fault {following = following} {rest = rest} {tag = tag} {names = names} is sound fault) =
-    let was = sound_read (place_of cs) tag (trim_start following) sound in
+    let was = sound_read (offset_of cs) tag (trim_start following) sound in
     record {
       tag = tag;
       following = following;
       is = is;
       refuses =
-          view_failed (λ (y : Rule × ℕ). (y.0, drop y.1 following)) (rule_at (place_of cs) tag following) e
-          (made_is (place_of cs) tag following ∙ ap (made (place_of cs) tag) was.2
-          ∙ fault_refused (place_of cs) tag was.0 names was.1 fault);
+          view_failed (λ (y : Rule × ℕ). (y.0, drop y.1 following)) (rule_at (offset_of cs) tag following) e
+          (made_is (offset_of cs) tag following ∙ ap (made (offset_of cs) tag) was.2
+          ∙ fault_refused (offset_of cs) tag was.0 names was.1 fault);
     }

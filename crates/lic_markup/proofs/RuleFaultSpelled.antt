@@ -11,7 +11,7 @@ use Rattle.lic_markup.specs.declared.rule.tag.Tag.TheVariants.{Var, BeginOptiona
 use Rattle.lic_markup.specs.declared.fault.MarkupFault.{MarkupFault}
 use Rattle.lic_markup.specs.declared.fault.MarkupCause.TheVariants.{NotClosed, FieldMissing, NoEquals}
 use Rattle.lic_markup.specs.Signs.{double_quote, semicolon, equals, greater, backslash}
-use Rattle.lic_markup.specs.Texts.{text_of, place_of, begins_with, begins_with_two, spaces, trim_end, trim_start}
+use Rattle.lic_markup.specs.Texts.{text_of, offset_of, begins_with, begins_with_two, spaces, trim_end, trim_start}
 use Rattle.lic_markup.specs.Faults.{fault_at, map_ok, ◌>>=◌}
 use Rattle.lic_markup.specs.Rules.{Values, no_values, field_of, has_value, with_value, at_end, ends_quoted, ends_plain, one_more, name_at, quoted_at, plain_at, value_at, field_at, field_or_none, fields_at, variable, begin, finish, complete, rule_of, rule_at}
 use Rattle.lic_markup.specs.Markup.{UpTo, IsTag, IsField, ends_field, ends_name, ends_quote}
@@ -229,40 +229,40 @@ module _ (rule : ℕ) (tag : Tag) (values : Values) (names : List (List ℕ)) (h
   Faulty cs e = IsFieldFault rule tag names cs e
 
   -- a field whose name cannot be read
-  name_fault : (cs : List Located) (e : MarkupFault) → NameFault rule (place_of cs) cs e → Faulty cs e
+  name_fault : (cs : List Located) (e : MarkupFault) → NameFault rule (offset_of cs) cs e → Faulty cs e
   name_fault cs e (unended n) = open_name n
   name_fault cs e (unequal up other) = no_equals up other
 
   twice_by : (cs : List Located) (e : MarkupFault) (name : List Located × ℕ) (sign : Located)
       → UpTo ends_name cs name.0 (sign ∷ drop name.1 cs) → sign.1 ≡ equals → (t : Bool)
-      → has_value (meaning rule (place_of cs) tag values name) values ≡ t
-      → value_then rule (place_of cs) tag values cs t (meaning rule (place_of cs) tag values name) name ≡ failed e
+      → has_value (meaning rule (offset_of cs) tag values name) values ≡ t
+      → value_then rule (offset_of cs) tag values cs t (meaning rule (offset_of cs) tag values name) name ≡ failed e
       → Faulty cs e
   twice_by cs e name sign up is true t h =
       subst (Faulty cs) (same_fault _ e h) (twice up is (sym (second_is values (text_of (trim_end name.0)) names tag held) ∙ t))
   twice_by cs e name sign up is false t h =
       let more = value_faulty rule e (trim_start (drop name.1 cs))
       (view_failed (λ value. (
-        with_value (meaning rule (place_of cs) tag values name) value.0 values,
+        with_value (meaning rule (offset_of cs) tag values name) value.0 values,
         name.1 + (spaces (drop name.1 cs) + value.1),
       )) (value_at rule (trim_start (drop name.1 cs))) e h) in
       subst (Faulty cs) more.0
       (open_value up is (sym (second_is values (text_of (trim_end name.0)) names tag held) ∙ t) more.1)
 
   field_by : (cs : List Located) (e : MarkupFault) (r : Result (List Located × ℕ) MarkupFault)
-      → name_at rule (place_of cs) cs ≡ r
-      → (r >>= λ name. value_then rule (place_of cs) tag values cs
-      (has_value (meaning rule (place_of cs) tag values name) values)
-      (meaning rule (place_of cs) tag values name) name) ≡ failed e
+      → name_at rule (offset_of cs) cs ≡ r
+      → (r >>= λ name. value_then rule (offset_of cs) tag values cs
+      (has_value (meaning rule (offset_of cs) tag values name) values)
+      (meaning rule (offset_of cs) tag values name) name) ≡ failed e
       → Faulty cs e
   field_by cs e (Err d) was h =
-      name_fault cs e (name_faulty rule (place_of cs) cs e (was ∙ ap (λ (d : MarkupFault). failed d) (same_fault d e h)))
+      name_fault cs e (name_faulty rule (offset_of cs) cs e (was ∙ ap (λ (d : MarkupFault). failed d) (same_fault d e h)))
   field_by cs e (Ok name) was h =
-      let up = name_spelled rule (place_of cs) cs name.0 (drop name.1 cs) (ap (read cs) was) in
-      twice_by cs e name up.0 up.1 up.2 (has_value (meaning rule (place_of cs) tag values name) values) refl h
+      let up = name_spelled rule (offset_of cs) cs name.0 (drop name.1 cs) (ap (read cs) was) in
+      twice_by cs e name up.0 up.1 up.2 (has_value (meaning rule (offset_of cs) tag values name) values) refl h
 
-  field_faulty : (cs : List Located) (e : MarkupFault) → field_at rule (place_of cs) tag values cs ≡ failed e → Faulty cs e
-  field_faulty cs e h = field_by cs e (name_at rule (place_of cs) cs) refl (sym (field_is rule (place_of cs) tag values cs) ∙ h)
+  field_faulty : (cs : List Located) (e : MarkupFault) → field_at rule (offset_of cs) tag values cs ≡ failed e → Faulty cs e
+  field_faulty cs e h = field_by cs e (name_at rule (offset_of cs) cs) refl (sym (field_is rule (offset_of cs) tag values cs) ∙ h)
 
 -- ---- all fields of a rule
 
@@ -369,40 +369,40 @@ module _ (rule : ℕ) (tag : Tag) (start : List Located) where
 
 -- ---- rules
 
-module _ (place : ℕ) (names : List (List ℕ)) where
+module _ (offset : ℕ) (names : List (List ℕ)) where
   lacking_by : (e : MarkupFault) (cs : List Located) → begins_with_two greater cs ≡ true
       → (name original : Option (List ℕ)) (pattern : Option (ℕ × List ℕ)) → is_some name ≡ is_among (codes "name") names
       → is_some original ≡ is_among (codes "original") names → is_some pattern ≡ is_among (codes "match") names
-      → complete place name original pattern ≡ failed e → IsFaultAfter place Var names cs e
+      → complete offset name original pattern ≡ failed e → IsFaultAfter offset Var names cs e
   lacking_by e cs ends None original pattern h1 h2 h3 h =
-      subst (IsFaultAfter place Var names cs) (same_fault _ e h) (missing (codes "name") ends refl (sym h1))
+      subst (IsFaultAfter offset Var names cs) (same_fault _ e h) (missing (codes "name") ends refl (sym h1))
   lacking_by e cs ends (Some n) None pattern h1 h2 h3 h =
-      subst (IsFaultAfter place Var names cs) (same_fault _ e h) (missing (codes "original") ends refl (sym h2))
+      subst (IsFaultAfter offset Var names cs) (same_fault _ e h) (missing (codes "original") ends refl (sym h2))
   lacking_by e cs ends (Some n) (Some o) None h1 h2 h3 h =
-      subst (IsFaultAfter place Var names cs) (same_fault _ e h) (missing (codes "match") ends refl (sym h3))
+      subst (IsFaultAfter offset Var names cs) (same_fault _ e h) (missing (codes "match") ends refl (sym h3))
   lacking_by e cs ends (Some n) (Some o) (Some p) h1 h2 h3 h = not_failed (variable n o p.0 p.1) e h
 
   -- what is wrong at the end of a rule
   lacking : (tag : Tag) (values : Values) (e : MarkupFault) (cs : List Located) → begins_with_two greater cs ≡ true
-      → HeldFor tag values names → rule_of place tag values ≡ failed e → IsFaultAfter place tag names cs e
+      → HeldFor tag values names → rule_of offset tag values ≡ failed e → IsFaultAfter offset tag names cs e
   unfolding HeldFor
   lacking Var values e cs ends held h = lacking_by e cs ends values.name values.original values.pattern held.name held.original held.pattern h
-  lacking BeginOptional values e cs ends held h = not_failed (begin place) e h
-  lacking EndOptional values e cs ends held h = not_failed (finish place) e h
+  lacking BeginOptional values e cs ends held h = not_failed (begin offset) e h
+  lacking EndOptional values e cs ends held h = not_failed (finish offset) e h
 
   no_name : (name original : Option (List ℕ)) (pattern : Option (ℕ × List ℕ)) → is_some name ≡ false
-      → complete place name original pattern ≡ Err (fault_at place FieldMissing)
+      → complete offset name original pattern ≡ Err (fault_at offset FieldMissing)
   no_name None original pattern h = refl
   no_name (Some n) original pattern h = absurd cc
 
   no_original : (name original : Option (List ℕ)) (pattern : Option (ℕ × List ℕ)) → is_some original ≡ false
-      → complete place name original pattern ≡ Err (fault_at place FieldMissing)
+      → complete offset name original pattern ≡ Err (fault_at offset FieldMissing)
   no_original None original pattern h = refl
   no_original (Some n) None pattern h = refl
   no_original (Some n) (Some o) pattern h = absurd cc
 
   no_pattern : (name original : Option (List ℕ)) (pattern : Option (ℕ × List ℕ)) → is_some pattern ≡ false
-      → complete place name original pattern ≡ Err (fault_at place FieldMissing)
+      → complete offset name original pattern ≡ Err (fault_at offset FieldMissing)
   no_pattern None original pattern h = refl
   no_pattern (Some n) None pattern h = refl
   no_pattern (Some n) (Some o) None h = refl
@@ -414,7 +414,7 @@ module _ (place : ℕ) (names : List (List ℕ)) where
   lacks_by : (values : Values) (name : List ℕ) (b1 b2 b3 : Bool) → bytes_eq name (codes "name") ≡ b1
       → bytes_eq name (codes "original") ≡ b2 → bytes_eq name (codes "match") ≡ b3 → Held values names
       → (b1 || (b2 || (b3 || false))) ≡ true → is_among name names ≡ false
-      → complete place values.name values.original values.pattern ≡ Err (fault_at place FieldMissing)
+      → complete offset values.name values.original values.pattern ≡ Err (fault_at offset FieldMissing)
   lacks_by values name true b2 b3 h1 h2 h3 held some absent =
       no_name values.name values.original values.pattern (none_of name (codes "name") _ h1 absent held.name)
   lacks_by values name false true b3 h1 h2 h3 held some absent =
@@ -425,7 +425,7 @@ module _ (place : ℕ) (names : List (List ℕ)) where
 
   -- a rule that lacks a field is refused
   pub lacks : (tag : Tag) (values : Values) (name : List ℕ) → HeldFor tag values names
-      → is_among name (needed tag) ≡ true → is_among name names ≡ false → rule_of place tag values ≡ Err (fault_at place FieldMissing)
+      → is_among name (needed tag) ≡ true → is_among name names ≡ false → rule_of offset tag values ≡ Err (fault_at offset FieldMissing)
   unfolding HeldFor
   lacks Var values name held some absent =
       lacks_by values name (bytes_eq name (codes "name")) (bytes_eq name (codes "original")) (bytes_eq name (codes "match")) refl refl refl held some absent
@@ -434,19 +434,19 @@ module _ (place : ℕ) (names : List (List ℕ)) where
 
 rule_by : (cs following : List Located) (tag : Tag) (e : MarkupFault) → IsTag cs following tag
     → (r : Result (Values × ℕ) MarkupFault)
-    → Outcome (place_of cs) tag (trim_start following) (read (trim_start following) r)
-    → (r >>= rule_then (place_of cs) tag following) ≡ failed e → IsRuleFault cs e
+    → Outcome (offset_of cs) tag (trim_start following) (read (trim_start following) r)
+    → (r >>= rule_then (offset_of cs) tag following) ≡ failed e → IsRuleFault cs e
 rule_by cs following tag e is (Err d) out h =
-    at_fault is out.2 (subst (IsFaultAfter (place_of cs) tag out.1 out.0) (same_fault d e h) out.3)
+    at_fault is out.2 (subst (IsFaultAfter (offset_of cs) tag out.1 out.0) (same_fault d e h) out.3)
 rule_by cs following tag e is (Ok y) out h =
     at_fault is out.2
-    (lacking (place_of cs) out.1 tag y.0 e out.0 out.3 out.4
-    (view_failed (λ rule. (rule, spaces following + y.1)) (rule_of (place_of cs) tag y.0) e h))
+    (lacking (offset_of cs) out.1 tag y.0 e out.0 out.3 out.4
+    (view_failed (λ rule. (rule, spaces following + y.1)) (rule_of (offset_of cs) tag y.0) e h))
 
 -- a rule that is refused is at fault so
-pub rule_faulty : (cs following : List Located) (tag : Tag) (e : MarkupFault) → IsTag cs following tag → rule_at (place_of cs) tag following ≡ Err e → IsRuleFault cs e
+pub rule_faulty : (cs following : List Located) (tag : Tag) (e : MarkupFault) → IsTag cs following tag → rule_at (offset_of cs) tag following ≡ Err e → IsRuleFault cs e
 rule_faulty cs following tag e is h =
     let front : List Located = trim_start following in
-    rule_by cs following tag e is (fields_at (place_of cs) tag no_values 0 front)
-    (outcome (place_of cs) tag front (length front) no_values [] front (omega arith) none (held_none tag))
-    (sym (rule_is (place_of cs) tag following) ∙ h)
+    rule_by cs following tag e is (fields_at (offset_of cs) tag no_values 0 front)
+    (outcome (offset_of cs) tag front (length front) no_values [] front (omega arith) none (held_none tag))
+    (sym (rule_is (offset_of cs) tag following) ∙ h)

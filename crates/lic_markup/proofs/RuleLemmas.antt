@@ -67,15 +67,15 @@ module _ (all rest front : List Located) (ends : word_at rest ≡ []) (parts : f
 -- ---- tags
 
 -- a `<` is followed by no other
-pub no_tag : (place : ℕ) (rest : List Located) → begins_with less rest ≡ false → option_map (with_remaining rest) (tag_at (place, less) rest) ≡ None
+pub no_tag : (offset : ℕ) (rest : List Located) → begins_with less rest ≡ false → option_map (with_remaining rest) (tag_at (offset, less) rest) ≡ None
 unfolding tag_at
-no_tag place rest other = rw other refl
+no_tag offset rest other = rw other refl
 
 -- it is followed by another, and this by a word
-module _ (place : ℕ) (rest following_it : List Located) (word : List ℕ) (sign : begins_with less rest ≡ true)
+module _ (offset : ℕ) (rest following_it : List Located) (word : List ℕ) (sign : begins_with less rest ≡ true)
     (is : text_of (word_at (drop 1 rest)) ≡ word) (others : following_it ≡ drop (length (word_at (drop 1 rest))) (drop 1 rest)) where
   pub tag_of_word : (o : Option Tag) → tag_of word ≡ o
-      → option_map (with_remaining rest) (tag_at (place, less) rest) ≡ option_map (λ tag. (tag, following_it)) o
+      → option_map (with_remaining rest) (tag_at (offset, less) rest) ≡ option_map (λ tag. (tag, following_it)) o
   unfolding tag_at
   tag_of_word o tag =
       rw sign (ap (λ t. option_map (with_remaining rest) (option_map (λ tag. (tag, 1 + length (word_at (drop 1 rest)))) t)) (ap tag_of is ∙ tag)

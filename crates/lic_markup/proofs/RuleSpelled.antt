@@ -13,7 +13,7 @@ use Rattle.lic_markup.specs.declared.rule.fields.Field.{Field}
 use Rattle.lic_markup.specs.declared.rule.fields.Field.TheVariants.{Name, Original, Match, Other}
 use Rattle.lic_markup.specs.declared.fault.MarkupFault.{MarkupFault}
 use Rattle.lic_markup.specs.Signs.{semicolon, equals, greater}
-use Rattle.lic_markup.specs.Texts.{text_of, place_of, unescaped, begins_with, begins_with_two, spaces, trim_end, trim_start}
+use Rattle.lic_markup.specs.Texts.{text_of, offset_of, unescaped, begins_with, begins_with_two, spaces, trim_end, trim_start}
 use Rattle.lic_markup.specs.Faults.{map_ok, ◌>>=◌}
 use Rattle.lic_markup.specs.Rules as rules
 use Rattle.lic_markup.specs.Rules.{Values, no_values, field_of, has_value, with_value, at_end, second_field, name_at, value_at, field_at, field_or_none, fields_at, Rule, complete, rule_of, tag_at, rule_at}
@@ -121,14 +121,14 @@ Slot f o values p = list_of o ++ map f values ≡ list_of p
 abbrev bare : List Located → List ℕ
 bare value = text_of (unescaped value)
 
-abbrev with_place : List Located → ℕ × List ℕ
-with_place value = (place_of value, text_of value)
+abbrev with_offset : List Located → ℕ × List ℕ
+with_offset value = (offset_of value, text_of value)
 
 -- the values of a variable, after those of these fields
 record Adds (values : Values) (fs : List (List ℕ × List Located)) (v : Values) : Type 0 where
   pub name : Slot bare values.name (values_of (codes "name") fs) v.name
   pub original : Slot bare values.original (values_of (codes "original") fs) v.original
-  pub pattern : Slot with_place values.pattern (values_of (codes "match") fs) v.pattern
+  pub pattern : Slot with_offset values.pattern (values_of (codes "match") fs) v.pattern
 
 AddsFor : Tag → Values → List (List ℕ × List Located) → Values → Type 0
 AddsFor Var values fs v = Adds values fs v
@@ -177,25 +177,25 @@ module _ (values v : Values) (word : List ℕ) (value : List Located) (fs : List
       record {
         name = mine_back bare values.name v.name value (values_of (codes "name") fs) _ h1 once a.name;
         original = other_back bare values.original v.original value (values_of (codes "original") fs) _ (other_word word (codes "name") (codes "original") refl h1) a.original;
-        pattern = other_back with_place values.pattern v.pattern value (values_of (codes "match") fs) _ (other_word word (codes "name") (codes "match") refl h1) a.pattern;
+        pattern = other_back with_offset values.pattern v.pattern value (values_of (codes "match") fs) _ (other_word word (codes "name") (codes "match") refl h1) a.pattern;
       }
   back_by false true b3 h1 h2 h3 once a =
       record {
         name = other_back bare values.name v.name value (values_of (codes "name") fs) _ h1 a.name;
         original = mine_back bare values.original v.original value (values_of (codes "original") fs) _ h2 once a.original;
-        pattern = other_back with_place values.pattern v.pattern value (values_of (codes "match") fs) _ (other_word word (codes "original") (codes "match") refl h2) a.pattern;
+        pattern = other_back with_offset values.pattern v.pattern value (values_of (codes "match") fs) _ (other_word word (codes "original") (codes "match") refl h2) a.pattern;
       }
   back_by false false true h1 h2 h3 once a =
       record {
         name = other_back bare values.name v.name value (values_of (codes "name") fs) _ h1 a.name;
         original = other_back bare values.original v.original value (values_of (codes "original") fs) _ h2 a.original;
-        pattern = mine_back with_place values.pattern v.pattern value (values_of (codes "match") fs) _ h3 once a.pattern;
+        pattern = mine_back with_offset values.pattern v.pattern value (values_of (codes "match") fs) _ h3 once a.pattern;
       }
   back_by false false false h1 h2 h3 once a =
       record {
         name = other_back bare values.name v.name value (values_of (codes "name") fs) _ h1 a.name;
         original = other_back bare values.original v.original value (values_of (codes "original") fs) _ h2 a.original;
-        pattern = other_back with_place values.pattern v.pattern value (values_of (codes "match") fs) _ h3 a.pattern;
+        pattern = other_back with_offset values.pattern v.pattern value (values_of (codes "match") fs) _ h3 a.pattern;
       }
 
   on_by : (b1 b2 b3 : Bool) → bytes_eq word (codes "name") ≡ b1 → bytes_eq word (codes "original") ≡ b2 → bytes_eq word (codes "match") ≡ b3
@@ -206,7 +206,7 @@ module _ (values v : Values) (word : List ℕ) (value : List Located) (fs : List
         record {
           name = one.1;
           original = other_on bare values.original v.original value (values_of (codes "original") fs) _ (other_word word (codes "name") (codes "original") refl h1) a.original;
-          pattern = other_on with_place values.pattern v.pattern value (values_of (codes "match") fs) _ (other_word word (codes "name") (codes "match") refl h1) a.pattern;
+          pattern = other_on with_offset values.pattern v.pattern value (values_of (codes "match") fs) _ (other_word word (codes "name") (codes "match") refl h1) a.pattern;
         },
       )
   on_by false true b3 h1 h2 h3 a =
@@ -215,11 +215,11 @@ module _ (values v : Values) (word : List ℕ) (value : List Located) (fs : List
         record {
           name = other_on bare values.name v.name value (values_of (codes "name") fs) _ h1 a.name;
           original = one.1;
-          pattern = other_on with_place values.pattern v.pattern value (values_of (codes "match") fs) _ (other_word word (codes "original") (codes "match") refl h2) a.pattern;
+          pattern = other_on with_offset values.pattern v.pattern value (values_of (codes "match") fs) _ (other_word word (codes "original") (codes "match") refl h2) a.pattern;
         },
       )
   on_by false false true h1 h2 h3 a =
-      let one = mine_on with_place values.pattern v.pattern value (values_of (codes "match") fs) _ h3 a.pattern in (
+      let one = mine_on with_offset values.pattern v.pattern value (values_of (codes "match") fs) _ h3 a.pattern in (
         one.0,
         record {
           name = other_on bare values.name v.name value (values_of (codes "name") fs) _ h1 a.name;
@@ -232,7 +232,7 @@ module _ (values v : Values) (word : List ℕ) (value : List Located) (fs : List
     record {
       name = other_on bare values.name v.name value (values_of (codes "name") fs) _ h1 a.name;
       original = other_on bare values.original v.original value (values_of (codes "original") fs) _ h2 a.original;
-      pattern = other_on with_place values.pattern v.pattern value (values_of (codes "match") fs) _ h3 a.pattern;
+      pattern = other_on with_offset values.pattern v.pattern value (values_of (codes "match") fs) _ h3 a.pattern;
     },
   )
 
@@ -419,30 +419,30 @@ module _ (rule : ℕ) (tag : Tag) where
 -- ---- rules
 
 abbrev pub rule_then : ℕ → Tag → List Located → Values × ℕ → Result (Rule × ℕ) MarkupFault
-rule_then place tag rest fields = map_ok (λ rule. (rule, spaces rest + fields.1)) (rule_of place tag fields.0)
+rule_then offset tag rest fields = map_ok (λ rule. (rule, spaces rest + fields.1)) (rule_of offset tag fields.0)
 
-pub rule_is : (place : ℕ) (tag : Tag) (rest : List Located)
-    → rule_at place tag rest ≡ (fields_at place tag no_values 0 (trim_start rest) >>= rule_then place tag rest)
+pub rule_is : (offset : ℕ) (tag : Tag) (rest : List Located)
+    → rule_at offset tag rest ≡ (fields_at offset tag no_values 0 (trim_start rest) >>= rule_then offset tag rest)
 unfolding rule_at
-rule_is place tag rest = refl
+rule_is offset tag rest = refl
 
 -- the fields of a rule, and the rule that they make
-record WasRule (place : ℕ) (tag : Tag) (following rest : List Located) (r : Rule) : Type 0 where
+record WasRule (offset : ℕ) (tag : Tag) (following rest : List Located) (r : Rule) : Type 0 where
   pub values : Values
-  pub fields : fields_of place tag no_values (trim_start following) ≡ got values rest
-  pub makes : rule_of place tag values ≡ Ok r
+  pub fields : fields_of offset tag no_values (trim_start following) ≡ got values rest
+  pub makes : rule_of offset tag values ≡ Ok r
 
 abbrev made : Rule → Result Rule MarkupFault
 made r = Ok r
 
-was_by : (place : ℕ) (tag : Tag) (following rest : List Located) (r : Rule) (f : Result (Values × ℕ) MarkupFault)
-    → fields_at place tag no_values 0 (trim_start following) ≡ f
-    → read following (f >>= rule_then place tag following) ≡ got r rest → WasRule place tag following rest r
-was_by place tag following rest r (Err d) was e = refused d r rest e
-was_by place tag following rest r (Ok y) was e = made_by (rule_of place tag y.0) refl e
+was_by : (offset : ℕ) (tag : Tag) (following rest : List Located) (r : Rule) (f : Result (Values × ℕ) MarkupFault)
+    → fields_at offset tag no_values 0 (trim_start following) ≡ f
+    → read following (f >>= rule_then offset tag following) ≡ got r rest → WasRule offset tag following rest r
+was_by offset tag following rest r (Err d) was e = refused d r rest e
+was_by offset tag following rest r (Ok y) was e = made_by (rule_of offset tag y.0) refl e
   where
-    made_by : (m : Result Rule MarkupFault) → rule_of place tag y.0 ≡ m
-        → read following (map_ok (λ rule. (rule, spaces following + y.1)) m) ≡ got r rest → WasRule place tag following rest r
+    made_by : (m : Result Rule MarkupFault) → rule_of offset tag y.0 ≡ m
+        → read following (map_ok (λ rule. (rule, spaces following + y.1)) m) ≡ got r rest → WasRule offset tag following rest r
     made_by (Err d) is e = refused d r rest e
     made_by (Ok s) is e =
         record {
@@ -464,47 +464,47 @@ one_value f (z ∷ y ∷ zs) p e = absurd (no (ap (drop 1) e))
 same_made : (r s : Rule) → made r ≡ made s → r ≡ s
 same_made r s e = ap (λ (o : Result Rule MarkupFault). elim o [ Ok x ↦ x | Err d ↦ r ]) e
 
-variable_by : (place : ℕ) (cs following rest : List Located) (r : Rule) (name original : Option (List ℕ))
-    (pattern : Option (ℕ × List ℕ)) → IsTag cs following Var → complete place name original pattern ≡ Ok r
+variable_by : (offset : ℕ) (cs following rest : List Located) (r : Rule) (name original : Option (List ℕ))
+    (pattern : Option (ℕ × List ℕ)) → IsTag cs following Var → complete offset name original pattern ≡ Ok r
     → (fs : List (List ℕ × List Located)) → IsFields (trim_start following) rest fs
     → Adds no_values fs (record { name = name; original = original; pattern = pattern }) → IsRule cs rest r
-variable_by place cs following rest r (Some n) (Some o) (Some p) tag is fs fields a =
+variable_by offset cs following rest r (Some n) (Some o) (Some p) tag is fs fields a =
     let one = one_value bare (values_of (codes "name") fs) n a.name in
     let two = one_value bare (values_of (codes "original") fs) o a.original in
-    let three = one_value with_place (values_of (codes "match") fs) p a.pattern in
+    let three = one_value with_offset (values_of (codes "match") fs) p a.pattern in
     subst (λ s. IsRule cs rest s) ((λ i. rules.variable (one.2 i) (two.2 i) (three.2 i).0 (three.2 i).1) ∙ same_made (rules.variable n o p.0 p.1) r is)
     (variable tag fields one.1 two.1 three.1)
-variable_by place cs following rest r None original pattern tag is fs fields a = absurd cc
-variable_by place cs following rest r (Some n) None pattern tag is fs fields a = absurd cc
-variable_by place cs following rest r (Some n) (Some o) None tag is fs fields a = absurd cc
+variable_by offset cs following rest r None original pattern tag is fs fields a = absurd cc
+variable_by offset cs following rest r (Some n) None pattern tag is fs fields a = absurd cc
+variable_by offset cs following rest r (Some n) (Some o) None tag is fs fields a = absurd cc
 
 -- a rule that is read, after its tag, is one of the markup
-pub rule_spelled : (place : ℕ) (tag : Tag) (cs following rest : List Located) (r : Rule) → place_of cs ≡ place
-    → IsTag cs following tag → read following (rule_at place tag following) ≡ got r rest → IsRule cs rest r
+pub rule_spelled : (offset : ℕ) (tag : Tag) (cs following rest : List Located) (r : Rule) → offset_of cs ≡ offset
+    → IsTag cs following tag → read following (rule_at offset tag following) ≡ got r rest → IsRule cs rest r
 unfolding AddsFor
-rule_spelled place Var cs following rest r at is e =
-    let was = was_by place Var following rest r (fields_at place Var no_values 0 (trim_start following)) refl
-    (sym (ap (read following) (rule_is place Var following)) ∙ e) in
-    let fields = fields_spelled place Var no_values was.values (trim_start following) rest was.fields in
-    variable_by place cs following rest r was.values.name was.values.original was.values.pattern is was.makes fields.0 fields.1 fields.2
-rule_spelled place BeginOptional cs following rest r at is e =
-    let was = was_by place BeginOptional following rest r
-    (fields_at place BeginOptional no_values 0 (trim_start following)) refl
-    (sym (ap (read following) (rule_is place BeginOptional following)) ∙ e) in
-    let fields = fields_spelled place BeginOptional no_values was.values (trim_start following) rest was.fields in
-    subst (λ s. IsRule cs rest s) (ap (λ p. rules.begin p) at ∙ same_made (rules.begin place) r was.makes) (begin is fields.1)
-rule_spelled place EndOptional cs following rest r at is e =
-    let was = was_by place EndOptional following rest r (fields_at place EndOptional no_values 0 (trim_start following)) refl
-    (sym (ap (read following) (rule_is place EndOptional following)) ∙ e) in
-    let fields = fields_spelled place EndOptional no_values was.values (trim_start following) rest was.fields in
-    subst (λ s. IsRule cs rest s) (ap (λ p. rules.finish p) at ∙ same_made (rules.finish place) r was.makes) (finish is fields.1)
+rule_spelled offset Var cs following rest r at is e =
+    let was = was_by offset Var following rest r (fields_at offset Var no_values 0 (trim_start following)) refl
+    (sym (ap (read following) (rule_is offset Var following)) ∙ e) in
+    let fields = fields_spelled offset Var no_values was.values (trim_start following) rest was.fields in
+    variable_by offset cs following rest r was.values.name was.values.original was.values.pattern is was.makes fields.0 fields.1 fields.2
+rule_spelled offset BeginOptional cs following rest r at is e =
+    let was = was_by offset BeginOptional following rest r
+    (fields_at offset BeginOptional no_values 0 (trim_start following)) refl
+    (sym (ap (read following) (rule_is offset BeginOptional following)) ∙ e) in
+    let fields = fields_spelled offset BeginOptional no_values was.values (trim_start following) rest was.fields in
+    subst (λ s. IsRule cs rest s) (ap (λ p. rules.begin p) at ∙ same_made (rules.begin offset) r was.makes) (begin is fields.1)
+rule_spelled offset EndOptional cs following rest r at is e =
+    let was = was_by offset EndOptional following rest r (fields_at offset EndOptional no_values 0 (trim_start following)) refl
+    (sym (ap (read following) (rule_is offset EndOptional following)) ∙ e) in
+    let fields = fields_spelled offset EndOptional no_values was.values (trim_start following) rest was.fields in
+    subst (λ s. IsRule cs rest s) (ap (λ p. rules.finish p) at ∙ same_made (rules.finish offset) r was.makes) (finish is fields.1)
 
-read_by : (place : ℕ) (tag : Tag) (following rest : List Located) (values : Values) (r : Rule)
-    → fields_of place tag no_values (trim_start following) ≡ got values rest → rule_of place tag values ≡ Ok r
-    → read following (rule_at place tag following) ≡ got r rest
-read_by place tag following rest values r fields makes =
-    let was = read_was (trim_start following) (fields_at place tag no_values 0 (trim_start following)) values rest fields in
-    ap (read following) (rule_is place tag following ∙ ap (λ (f : Result (Values × ℕ) MarkupFault). f >>= rule_then place tag following) was.1)
+read_by : (offset : ℕ) (tag : Tag) (following rest : List Located) (values : Values) (r : Rule)
+    → fields_of offset tag no_values (trim_start following) ≡ got values rest → rule_of offset tag values ≡ Ok r
+    → read following (rule_at offset tag following) ≡ got r rest
+read_by offset tag following rest values r fields makes =
+    let was = read_was (trim_start following) (fields_at offset tag no_values 0 (trim_start following)) values rest fields in
+    ap (read following) (rule_is offset tag following ∙ ap (λ (f : Result (Values × ℕ) MarkupFault). f >>= rule_then offset tag following) was.1)
     ∙ ap (λ (m : Result Rule MarkupFault). read following (map_ok (λ rule. (rule, spaces following + was.0)) m)) makes
     ∙ ap (λ (l : List Located). got r l) (sym (drop-drop was.0 (spaces following) following) ∙ was.2)
 
@@ -513,21 +513,21 @@ pub record WasRead (cs rest : List Located) (r : Rule) : Type 0 where
   pub tag : Tag
   pub following : List Located
   pub is : IsTag cs following tag
-  pub read : read following (rule_at (place_of cs) tag following) ≡ got r rest
+  pub read : read following (rule_at (offset_of cs) tag following) ≡ got r rest
 
 -- a rule of the markup is read
 pub rule_read : {cs rest : List Located} {r : Rule} → IsRule cs rest r → WasRead cs rest r
 unfolding AddsFor
 rule_read (variable {cs = cs} {following = following} {rest = rest} {fs = fs} {name = name} {original = original} {pattern = pattern} is fields one two three) =
-    let values : Values = record { name = Some (bare name); original = Some (bare original); pattern = Some (with_place pattern) } in
-    let adds : Adds no_values fs values = record { name = ap (map bare) one; original = ap (map bare) two; pattern = ap (map with_place) three } in
+    let values : Values = record { name = Some (bare name); original = Some (bare original); pattern = Some (with_offset pattern) } in
+    let adds : Adds no_values fs values = record { name = ap (map bare) one; original = ap (map bare) two; pattern = ap (map with_offset) three } in
     record {
       tag = Var;
       following = following;
       is = is;
       read =
-          read_by (place_of cs) Var following rest values _
-          (fields_read (place_of cs) Var fields no_values values adds) refl;
+          read_by (offset_of cs) Var following rest values _
+          (fields_read (offset_of cs) Var fields no_values values adds) refl;
     }
 rule_read (begin {cs = cs} {following = following} {rest = rest} is fields) =
     record {
@@ -535,8 +535,8 @@ rule_read (begin {cs = cs} {following = following} {rest = rest} is fields) =
       following = following;
       is = is;
       read =
-          read_by (place_of cs) BeginOptional following rest no_values _
-          (fields_read (place_of cs) BeginOptional fields no_values no_values refl) refl;
+          read_by (offset_of cs) BeginOptional following rest no_values _
+          (fields_read (offset_of cs) BeginOptional fields no_values no_values refl) refl;
     }
 rule_read (finish {cs = cs} {following = following} {rest = rest} is fields) =
     record {
@@ -544,6 +544,6 @@ rule_read (finish {cs = cs} {following = following} {rest = rest} is fields) =
       following = following;
       is = is;
       read =
-          read_by (place_of cs) EndOptional following rest no_values _
-          (fields_read (place_of cs) EndOptional fields no_values no_values refl) refl;
+          read_by (offset_of cs) EndOptional following rest no_values _
+          (fields_read (offset_of cs) EndOptional fields no_values no_values refl) refl;
     }

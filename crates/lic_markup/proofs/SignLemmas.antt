@@ -33,19 +33,19 @@ encoded-no_mark (c ∷ cs) none =
     encoded-no_mark cs (λ k within at. none (length here + k) (omega (arith, length-append here rest)) (get_or-append-add here rest k 0 ∙ at)) in
     ap (λ b. b || list_any (λ c. c == less) cs) other ∙ more
 
--- the places of characters do not count
-pub sign-located : (place : ℕ) (cs : List ℕ) → has_sign (located_from place cs) ≡ list_any (λ c. c == less) cs
-sign-located place [] = refl
-sign-located place (c ∷ cs) = ap (λ b. (c == less) || b) (sign-located (place + len_utf8 c) cs)
+-- the offsets of characters do not count
+pub sign-located : (offset : ℕ) (cs : List ℕ) → has_sign (located_from offset cs) ≡ list_any (λ c. c == less) cs
+sign-located offset [] = refl
+sign-located offset (c ∷ cs) = ap (λ b. (c == less) || b) (sign-located (offset + len_utf8 c) cs)
 
 -- a text in which no byte is a `<` has none
-no_mark : (place : ℕ) (text : List ℕ) → IsUtf8 text → HasNoMark text → has_sign (located_from place (chars text)) ≡ false
-no_mark place text utf8 none =
-    sign-located place (chars text) ∙ encoded-no_mark (chars text) (subst HasNoMark (sym (encodes-chars text utf8)) none)
+no_mark : (offset : ℕ) (text : List ℕ) → IsUtf8 text → HasNoMark text → has_sign (located_from offset (chars text)) ≡ false
+no_mark offset text utf8 none =
+    sign-located offset (chars text) ∙ encoded-no_mark (chars text) (subst HasNoMark (sym (encodes-chars text utf8)) none)
 
 pub no_sign : (piece : Piece) → IsUtf8 piece.text.now → IsFirstByte (is_byte less) piece.text.now None → has_sign (characters piece) ≡ false
 no_sign piece utf8 none =
-    no_mark piece.place piece.text.now utf8
+    no_mark piece.offset piece.text.now utf8
     (λ k within at. none k (omega arith) within (eq-eqb (get_or piece.text.now k 0) less at))
 
 -- the first `<`, and what is round it
@@ -67,8 +67,8 @@ module _ (text : List ℕ) (count : ℕ) (utf8 : IsUtf8 text) (found : IsFirstBy
       let low : k < count = omega (arith, taken_length) in
       found.0.before k (omega arith) low (eq-eqb (get_or text k 0) less (sym (get_or-take count text k 0 low) ∙ at))
 
-  pub no_sign_before : (place : ℕ) → has_sign (located_from place (chars (take count text))) ≡ false
-  no_sign_before place = no_mark place (take count text) (IsUtf8-take text count utf8 sign_seam) none_before
+  pub no_sign_before : (offset : ℕ) → has_sign (located_from offset (chars (take count text))) ≡ false
+  no_sign_before offset = no_mark offset (take count text) (IsUtf8-take text count utf8 sign_seam) none_before
 
   module _ (here : List ℕ) (is : here ≡ drop count text) where
     pub here_utf8 : IsUtf8 here
@@ -91,25 +91,25 @@ module _ (text : List ℕ) (count : ℕ) (utf8 : IsUtf8 text) (found : IsFirstBy
     here_is = drop_more here 0 0 here_long ∙ ap (λ c. c ∷ drop 1 here) here_first
 
 pub next_sign : (piece here after : Piece) (count : ℕ) → IsUtf8 piece.text.now → IsFirstByte (is_byte less) piece.text.now (Some count)
-    → here.text.now ≡ drop count piece.text.now → here.place ≡ piece.place + count → after.text.now ≡ drop 1 here.text.now
-    → after.place ≡ here.place + 1 → IsNextSign piece here after
-next_sign piece here after count utf8 found here_text here_place after_text after_place =
+    → here.text.now ≡ drop count piece.text.now → here.offset ≡ piece.offset + count → after.text.now ≡ drop 1 here.text.now
+    → after.offset ≡ here.offset + 1 → IsNextSign piece here after
+next_sign piece here after count utf8 found here_text here_offset after_text after_offset =
     let text : List ℕ = piece.text.now in
     let front : List ℕ = take count text in
     let came : here.text.now ≡ (less ∷ []) ++ after.text.now =
     here_is text count utf8 found here.text.now here_text ∙ ap (λ l. less ∷ l) (sym after_text) in
     let all : text ≡ front ++ here.text.now = sym (take-append-drop count text) ∙ ap (λ l. front ++ l) (sym here_text) in
-    let at : here.place ≡ piece.place + length front = omega (arith, here_place, taken_length text count utf8 found) in
+    let at : here.offset ≡ piece.offset + length front = omega (arith, here_offset, taken_length text count utf8 found) in
     let ends : EndsWith piece here = (front, all, at) in
     record {
       ends = ends;
-      ends_after = ends_on piece here after ends (less ∷ [], came, after_place);
-      sign = one_left here.place after.place here.text.now after.text.now less
+      ends_after = ends_on piece here after ends (less ∷ [], came, after_offset);
+      sign = one_left here.offset after.offset here.text.now after.text.now less
           (here_utf8 text count utf8 found here.text.now here_text)
-          (came ∙ ap (λ l. l ++ after.text.now) (sym (encode_ascii less (lit< tt)))) after_place;
-      front = located_from piece.place (chars front);
-      parts = pieces-append piece.place here.place text front here.text.now (IsUtf8-take text count utf8 (sign_seam text count utf8 found)) all at;
-      first = no_sign_before text count utf8 found piece.place;
+          (came ∙ ap (λ l. l ++ after.text.now) (sym (encode_ascii less (lit< tt)))) after_offset;
+      front = located_from piece.offset (chars front);
+      parts = pieces-append piece.offset here.offset text front here.text.now (IsUtf8-take text count utf8 (sign_seam text count utf8 found)) all at;
+      first = no_sign_before text count utf8 found piece.offset;
     }
 
 pub next_sign-shorter : (piece here after : Piece) → IsNextSign piece here after → length (characters after) < length (characters piece)

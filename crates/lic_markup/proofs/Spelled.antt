@@ -11,7 +11,7 @@ use Rattle.lic_markup.specs.Markup.{UpTo, ends_field, ends_name, ends_quote, end
 use Rattle.lic_markup.proofs.FaultLemmas.{following, map_ok-map_ok, map_ok-same, with_remaining-further}
 use Rattle.lic_markup.proofs.RuleLemmas.{read, one_more-read, name-ends, name-refused, name-goes_on, name-open, quoted-ends, quoted-goes_on, quoted-open, plain-ends, plain-goes_on, plain-open}
 
--- ---- the first place
+-- ---- the first offset
 
 pub empty_no : (before : List Located) (y : Located) (after : List Located) → [] ≡ before ++ y ∷ after → ⊥
 empty_no [] y after e = absurd cc

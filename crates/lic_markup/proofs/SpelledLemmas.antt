@@ -9,8 +9,8 @@ use Rattle.std.proofs.lemmas.Str.{scalars-chars, IsUtf8-encode, IsUtf8-append, I
 use Rattle.lic_kind.specs.Kinds.{kind_of}
 use Rattle.lic_words.specs.Words.{blank}
 use Rattle.lic_words.specs.Letters.{is_word}
-use Rattle.lic_words.specs.Spelling.{gap_of, gapped_from, row_of, last_letter, Spells, SpellsGapped}
-use Rattle.lic_words.proofs.Rows.{gapped_from-blank, gapped_from-letter, last_letter-blank, last_letter-letter}
+use Rattle.lic_words.specs.Spelling.{gap_of, gapped_from, sequence_of, last_letter, Spells, SpellsGapped}
+use Rattle.lic_words.proofs.Sequences.{gapped_from-blank, gapped_from-letter, last_letter-blank, last_letter-letter}
 use Rattle.lic_phrases.specs.Spelling.{first_is_word, begins_in_word, ends_in_word, is_parted, blank_if, spelled}
 use Rattle.lic_phrases.specs.TokenTexts.{IsTokenText}
 
@@ -22,13 +22,13 @@ GoesOn [] = Unit {0}
 GoesOn (c ∷ cs) = (c ≡ blank → first_is_word cs ≡ true) × GoesOn cs
 
 -- there is a letter, and the first is no blank
-abbrev IsRow : List ℕ → Type 0
-IsRow [] = ⊥
-IsRow (c ∷ cs) = ((c == blank) ≡ false) × GoesOn cs
+abbrev IsSequence : List ℕ → Type 0
+IsSequence [] = ⊥
+IsSequence (c ∷ cs) = ((c == blank) ≡ false) × GoesOn cs
 
-abbrev AreRows : List (List ℕ) → Type 0
-AreRows [] = Unit {0}
-AreRows (t ∷ ts) = IsRow t × AreRows ts
+abbrev AreSequences : List (List ℕ) → Type 0
+AreSequences [] = Unit {0}
+AreSequences (t ∷ ts) = IsSequence t × AreSequences ts
 
 blank_no_word : is_word blank ≡ false
 unfolding kind_of
@@ -38,42 +38,42 @@ word_no_blank : (c : ℕ) → is_word c ≡ true → (c == blank) ≡ false
 word_no_blank c h = ne_eqb c blank (λ e. true≢false (sym h ∙ ap is_word e ∙ blank_no_word))
 
 -- the letters of a token after a letter, or after a blank that a word follows
-letters_spell : (last : ℕ) (apart : Bool) (t v row : List ℕ) → (apart ≡ true → first_is_word t ≡ true) → GoesOn t →
-    SpellsGapped v (gapped_from (last_letter last t) false row) → SpellsGapped (blank_if apart ++ (t ++ v)) (gapped_from last apart (t ++ row))
-letters_spell last false [] v row starts on s = s
-letters_spell last true [] v row starts on s = absurd (true≢false (sym (starts refl)))
-letters_spell last apart (c ∷ t) v row starts on s = by_letter (λ l a. letters_spell l a t v row) (c == blank) refl apart starts
+letters_spell : (last : ℕ) (apart : Bool) (t v sequence : List ℕ) → (apart ≡ true → first_is_word t ≡ true) → GoesOn t →
+    SpellsGapped v (gapped_from (last_letter last t) false sequence) → SpellsGapped (blank_if apart ++ (t ++ v)) (gapped_from last apart (t ++ sequence))
+letters_spell last false [] v sequence starts on s = s
+letters_spell last true [] v sequence starts on s = absurd (true≢false (sym (starts refl)))
+letters_spell last apart (c ∷ t) v sequence starts on s = by_letter (λ l a. letters_spell l a t v sequence) (c == blank) refl apart starts
   where
     by_letter : ((l : ℕ) (a : Bool) → (a ≡ true → first_is_word t ≡ true) → GoesOn t
-        → SpellsGapped v (gapped_from (last_letter l t) false row)
-        → SpellsGapped (blank_if a ++ (t ++ v)) (gapped_from l a (t ++ row))) →
+        → SpellsGapped v (gapped_from (last_letter l t) false sequence)
+        → SpellsGapped (blank_if a ++ (t ++ v)) (gapped_from l a (t ++ sequence))) →
         (b : Bool) → (c == blank) ≡ b → (a : Bool) → (a ≡ true → first_is_word (c ∷ t) ≡ true)
-        → SpellsGapped (blank_if a ++ ((c ∷ t) ++ v)) (gapped_from last a ((c ∷ t) ++ row))
+        → SpellsGapped (blank_if a ++ ((c ∷ t) ++ v)) (gapped_from last a ((c ∷ t) ++ sequence))
     by_letter more true h true first = absurd (true≢false (sym h ∙ word_no_blank c (first refl)))
     by_letter more true h false first =
         let is : c ≡ blank = eqb-true c blank h in
-        let later : SpellsGapped (blank ∷ (t ++ v)) (gapped_from last true (t ++ row)) =
-        more last true (λ _. on.0 is) on.1 (subst (λ l. SpellsGapped v (gapped_from l false row)) (last_letter-blank last false c t h) s) in
-        rw (gapped_from-blank last false c (t ++ row) h) (subst (λ d. SpellsGapped (d ∷ (t ++ v)) (gapped_from last true (t ++ row))) (sym is) later)
+        let later : SpellsGapped (blank ∷ (t ++ v)) (gapped_from last true (t ++ sequence)) =
+        more last true (λ _. on.0 is) on.1 (subst (λ l. SpellsGapped v (gapped_from l false sequence)) (last_letter-blank last false c t h) s) in
+        rw (gapped_from-blank last false c (t ++ sequence) h) (subst (λ d. SpellsGapped (d ∷ (t ++ v)) (gapped_from last true (t ++ sequence))) (sym is) later)
     by_letter more false h a first =
-        let later : SpellsGapped (t ++ v) (gapped_from c false (t ++ row)) =
-        more c false (λ e. absurd (true≢false (sym e))) on.1 (subst (λ l. SpellsGapped v (gapped_from l false row)) (last_letter-letter last false c t h) s) in
-        rw (gapped_from-letter last a c (t ++ row) h) (gap a (is_word last && is_word c) later)
+        let later : SpellsGapped (t ++ v) (gapped_from c false (t ++ sequence)) =
+        more c false (λ e. absurd (true≢false (sym e))) on.1 (subst (λ l. SpellsGapped v (gapped_from l false sequence)) (last_letter-letter last false c t h) s) in
+        rw (gapped_from-letter last a c (t ++ sequence) h) (gap a (is_word last && is_word c) later)
       where
-        gap : (a both : Bool) → SpellsGapped (t ++ v) (gapped_from c false (t ++ row))
-            → SpellsGapped (blank_if a ++ ((c ∷ t) ++ v)) ((gap_of a both, c) ∷ gapped_from c false (t ++ row))
+        gap : (a both : Bool) → SpellsGapped (t ++ v) (gapped_from c false (t ++ sequence))
+            → SpellsGapped (blank_if a ++ ((c ∷ t) ++ v)) ((gap_of a both, c) ∷ gapped_from c false (t ++ sequence))
         gap false both later = (0, refl, t ++ v, refl, later)
         gap true false later = (1, tt, t ++ v, refl, later)
         gap true true later = (1, omega arith, t ++ v, refl, later)
 
 -- the first letter of a token after another token, with a blank where both letters are of kind Word
-token_spells : (last d : ℕ) (t v row : List ℕ) → (d == blank) ≡ false → GoesOn t → SpellsGapped v (gapped_from (last_letter d t) false row) →
-    SpellsGapped (blank_if (is_word last && is_word d) ++ ((d ∷ t) ++ v)) (gapped_from last true ((d ∷ t) ++ row))
-token_spells last d t v row h on s =
-    rw (gapped_from-letter last true d (t ++ row) h) (gap (is_word last && is_word d) (letters_spell d false t v row (λ e. absurd (true≢false (sym e))) on s))
+token_spells : (last d : ℕ) (t v sequence : List ℕ) → (d == blank) ≡ false → GoesOn t → SpellsGapped v (gapped_from (last_letter d t) false sequence) →
+    SpellsGapped (blank_if (is_word last && is_word d) ++ ((d ∷ t) ++ v)) (gapped_from last true ((d ∷ t) ++ sequence))
+token_spells last d t v sequence h on s =
+    rw (gapped_from-letter last true d (t ++ sequence) h) (gap (is_word last && is_word d) (letters_spell d false t v sequence (λ e. absurd (true≢false (sym e))) on s))
   where
-    gap : (both : Bool) → SpellsGapped (t ++ v) (gapped_from d false (t ++ row))
-        → SpellsGapped (blank_if both ++ ((d ∷ t) ++ v)) ((gap_of true both, d) ∷ gapped_from d false (t ++ row))
+    gap : (both : Bool) → SpellsGapped (t ++ v) (gapped_from d false (t ++ sequence))
+        → SpellsGapped (blank_if both ++ ((d ∷ t) ++ v)) ((gap_of true both, d) ∷ gapped_from d false (t ++ sequence))
     gap false later = (0, tt, t ++ v, refl, later)
     gap true later = (1, omega arith, t ++ v, refl, later)
 
@@ -101,7 +101,7 @@ ends d (e ∷ t) on = by_letter (λ l. ends l t on.1) (e == blank) refl
     by_letter more true h = last_kept d e t ∙ following_blank t (on.0 (eqb-true e blank h)) ∙ more d ∙ ap is_word (sym (last_letter-blank d false e t h))
     by_letter more false h = last_kept d e t ∙ more e ∙ ap is_word (sym (last_letter-letter d false e t h))
 
--- ---- rows of tokens
+-- ---- sequences of tokens
 
 -- `spelled` on letters
 abbrev joined : List (List ℕ) → List ℕ
@@ -109,23 +109,23 @@ joined [] = []
 joined (t ∷ []) = t
 joined (t ∷ u ∷ ts) = t ++ (blank_if (first_is_word (reverse t) && first_is_word u) ++ joined (u ∷ ts))
 
-rows_spell : (last : ℕ) (t : List ℕ) (ts : List (List ℕ)) → IsRow t → AreRows ts →
-    SpellsGapped (blank_if (is_word last && first_is_word t) ++ joined (t ∷ ts)) (gapped_from last true (t ++ row_of ts))
-rows_spell last [] ts row rows = absurd row
-rows_spell last (d ∷ t) [] row rows =
+sequences_spell : (last : ℕ) (t : List ℕ) (ts : List (List ℕ)) → IsSequence t → AreSequences ts →
+    SpellsGapped (blank_if (is_word last && first_is_word t) ++ joined (t ∷ ts)) (gapped_from last true (t ++ sequence_of ts))
+sequences_spell last [] ts sequence sequences = absurd sequence
+sequences_spell last (d ∷ t) [] sequence sequences =
     subst (λ l. SpellsGapped (blank_if (is_word last && is_word d) ++ l) (gapped_from last true ((d ∷ t) ++ []))) (append-nil (d ∷ t))
-    (token_spells last d t [] [] row.0 row.1 (0, refl))
-rows_spell last (d ∷ t) (u ∷ us) row rows =
+    (token_spells last d t [] [] sequence.0 sequence.1 (0, refl))
+sequences_spell last (d ∷ t) (u ∷ us) sequence sequences =
     let l = last_letter d t in
     let v : Bool → List ℕ = λ b. blank_if (b && first_is_word u) ++ joined (u ∷ us) in
-    let later : SpellsGapped (v (is_word l)) (gapped_from l true (u ++ row_of us)) = rows_spell l u us rows.0 rows.1 in
-    token_spells last d t (v (first_is_word (reverse (d ∷ t)))) (row_of (u ∷ us)) row.0 row.1
-    (subst (λ b. SpellsGapped (v b) (gapped_from l true (u ++ row_of us))) (sym (ends d t row.1)) later)
+    let later : SpellsGapped (v (is_word l)) (gapped_from l true (u ++ sequence_of us)) = sequences_spell l u us sequences.0 sequences.1 in
+    token_spells last d t (v (first_is_word (reverse (d ∷ t)))) (sequence_of (u ∷ us)) sequence.0 sequence.1
+    (subst (λ b. SpellsGapped (v b) (gapped_from l true (u ++ sequence_of us))) (sym (ends d t sequence.1)) later)
 
-joined_spells : (t : List ℕ) (ts : List (List ℕ)) → IsRow t → AreRows ts → Spells (joined (t ∷ ts)) (t ∷ ts)
-joined_spells t ts row rows =
+joined_spells : (t : List ℕ) (ts : List (List ℕ)) → IsSequence t → AreSequences ts → Spells (joined (t ∷ ts)) (t ∷ ts)
+joined_spells t ts sequence sequences =
     subst (λ b. SpellsGapped (blank_if (b && first_is_word t) ++ joined (t ∷ ts))
-    (gapped_from blank true (t ++ row_of ts))) blank_no_word (rows_spell blank t ts row rows)
+    (gapped_from blank true (t ++ sequence_of ts))) blank_no_word (sequences_spell blank t ts sequence sequences)
 
 -- ---- texts in UTF-8
 
@@ -164,9 +164,9 @@ GoesOn-each : (cs : List ℕ) → ((f r : List ℕ) → cs ≡ f ++ blank ∷ r 
 GoesOn-each [] each = tt
 GoesOn-each (c ∷ cs) each = (λ is. each [] cs (ap (λ x. x ∷ cs) is), GoesOn-each cs (λ f r e. each (c ∷ f) r (ap (λ l. c ∷ l) e)))
 
-IsRow-each : (cs : List ℕ) → (cs ≡ [] → ⊥) → ((r : List ℕ) → cs ≡ blank ∷ r → ⊥) → ((f r : List ℕ) → cs ≡ f ++ blank ∷ r → first_is_word r ≡ true) → IsRow cs
-IsRow-each [] some first each = some refl
-IsRow-each (c ∷ cs) some first each = (
+IsSequence-each : (cs : List ℕ) → (cs ≡ [] → ⊥) → ((r : List ℕ) → cs ≡ blank ∷ r → ⊥) → ((f r : List ℕ) → cs ≡ f ++ blank ∷ r → first_is_word r ≡ true) → IsSequence cs
+IsSequence-each [] some first each = some refl
+IsSequence-each (c ∷ cs) some first each = (
   ne_eqb c blank (λ is. first cs (ap (λ x. x ∷ cs) is)),
   (GoesOn-each (c ∷ cs) each).1,
 )
@@ -175,8 +175,8 @@ scalars-following : (f r : List ℕ) → scalars (f ++ blank ∷ r) ≡ true →
 scalars-following [] r h = (and_parts (scalar blank) (scalars r) h).1
 scalars-following (c ∷ f) r h = scalars-following f r (and_parts (scalar c) (scalars (f ++ blank ∷ r)) h).1
 
-pub token_row : (text : List ℕ) → IsUtf8 text → IsTokenText text → IsRow (chars text)
-token_row text utf8 token = IsRow-each (chars text) some first each
+pub token_sequence : (text : List ℕ) → IsUtf8 text → IsTokenText text → IsSequence (chars text)
+token_sequence text utf8 token = IsSequence-each (chars text) some first each
   where
     back : encodes (chars text) ≡ text
     back = encodes-chars text utf8
@@ -198,16 +198,16 @@ token_row text utf8 token = IsRow-each (chars text) some first each
         let inside : begins_in_word (encodes r) ≡ true = (token.blanks (encodes f) (encodes r) (cut f r e)).1 in
         sym (ap first_is_word (chars-encodes r (scalars-following f r (ap scalars (sym e) ∙ scalars-chars text utf8)))) ∙ inside
 
-rows : (ts : List (List ℕ)) → All IsUtf8 ts → All IsTokenText ts → AreRows (map chars ts)
-rows [] utf8 token = tt
-rows (t ∷ ts) utf8 token = (
-  token_row t (All-head IsUtf8 t ts utf8) (All-head IsTokenText t ts token),
-  rows ts (All-tail IsUtf8 t ts utf8) (All-tail IsTokenText t ts token),
+sequences : (ts : List (List ℕ)) → All IsUtf8 ts → All IsTokenText ts → AreSequences (map chars ts)
+sequences [] utf8 token = tt
+sequences (t ∷ ts) utf8 token = (
+  token_sequence t (All-head IsUtf8 t ts utf8) (All-head IsTokenText t ts token),
+  sequences ts (All-tail IsUtf8 t ts utf8) (All-tail IsTokenText t ts token),
 )
 
 -- the canonical spelling of the texts of tokens spells the tokens
 pub spelled_spells : (ts : List (List ℕ)) → (ts ≡ [] → ⊥) → All IsUtf8 ts → All IsTokenText ts → Spells (chars (spelled ts)) (map chars ts)
 spelled_spells [] some utf8 token = absurd (some refl)
 spelled_spells (t ∷ ts) some utf8 token =
-    let all = rows (t ∷ ts) utf8 token in
+    let all = sequences (t ∷ ts) utf8 token in
     subst (λ w. Spells w (map chars (t ∷ ts))) (sym (chars-spelled (t ∷ ts) utf8)) (joined_spells (chars t) (map chars ts) all.0 all.1)

@@ -12,8 +12,8 @@ use Rattle.lic_ere.proofs.Complete.{IsPattern-read}
 use Rattle.lic_ere.proofs.Sound.{reading-IsPattern}
 use Rattle.lic_kind.specs.LineRules.{LineRules}
 use Rattle.lic_phrases.specs.Rewriting.{Phrase}
-use Rattle.lic_norm.specs.Pieces.{piece_of}
-use Rattle.lic_norm.specs.declared.pieces.Next.{Next}
+use Rattle.lic_pieces.specs.Pieces.{piece_of}
+use Rattle.lic_pieces.specs.declared.pieces.Next.{Next}
 use Rattle.lic_markup.specs.declared.fault.MarkupFault.{MarkupFault}
 use Rattle.lic_markup.specs.declared.fault.MarkupCause.TheVariants.{NotEnded, NoLetter, TooHeavy, TooLong, TooDeep, EndWithoutBegin}
 use Rattle.lic_markup.specs.Texts.{text_of}
@@ -22,7 +22,7 @@ use Rattle.lic_markup.specs.Rules as rules
 use Rattle.lic_markup.specs.Elements.{Element, text, rule, refused, elements}
 use Rattle.lic_markup.specs.Lines.{with_next, next_of, next_after}
 use Rattle.lic_markup.specs.Parts as parts
-use Rattle.lic_markup.specs.Parts.{Node, Reading, TemplateValue, row, row_weight, row_has_token, template_of}
+use Rattle.lic_markup.specs.Parts.{Node, Reading, TemplateValue, sequence, sequence_weight, sequence_has_token, template_of}
 use Rattle.lic_markup.specs.Reading as reading
 use Rattle.lic_markup.specs.Reading.{Level, State, new_level, with_part, meet, meet_text, meet_variable, meet_begin, meet_end, finish, read_on, read_elements, start, whole, reported, max_depth, max_length, max_weight}
 use Rattle.lic_markup.specs.Templates as templates
@@ -50,40 +50,40 @@ parts_in levels = map (λ l. l.parts) levels
 
 -- what holds of each accepted template
 record IsWhole (r : Reading) : Type 0 where
-  pub some_token : row_has_token (row r.parts) ≡ true
-  pub weight : r.weight ≡ row_weight (row r.parts)
+  pub some_token : sequence_has_token (sequence r.parts) ≡ true
+  pub weight : r.weight ≡ sequence_weight (sequence r.parts)
   pub light : r.weight ≤ max_weight
 
-whole_by : (ps : List Node) (original : List ℕ) (r : Reading) (token heavy : Bool) → row_has_token (row ps) ≡ token
-    → nat_lt max_weight (row_weight (row ps)) ≡ heavy
+whole_by : (ps : List Node) (original : List ℕ) (r : Reading) (token heavy : Bool) → sequence_has_token (sequence ps) ≡ token
+    → nat_lt max_weight (sequence_weight (sequence ps)) ≡ heavy
     → cond (not token) (Err (fault_at 0 NoLetter))
     (cond heavy (Err (fault_at 0 TooHeavy))
-    (Ok (record { parts = ps; weight = row_weight (row ps); original = original }))) ≡ done r
-    → IsWhole r × (record { parts = ps; weight = row_weight (row ps); original = original } ≡ r)
+    (Ok (record { parts = ps; weight = sequence_weight (sequence ps); original = original }))) ≡ done r
+    → IsWhole r × (record { parts = ps; weight = sequence_weight (sequence ps); original = original } ≡ r)
 whole_by ps original r false heavy one two e = not_done (fault_at 0 NoLetter) r e
 whole_by ps original r true true one two e = not_done (fault_at 0 TooHeavy) r e
 whole_by ps original r true false one two e =
-    let made : Reading = record { parts = ps; weight = row_weight (row ps); original = original } in
+    let made : Reading = record { parts = ps; weight = sequence_weight (sequence ps); original = original } in
     let is : made ≡ r = same_done made r e in
-    let small : row_weight (row ps) ≤ max_weight = grind (arith, nat_tests) in
+    let small : sequence_weight (sequence ps) ≤ max_weight = grind (arith, nat_tests) in
     (subst IsWhole is (record { some_token = one; weight = refl; light = small }), is)
 
 whole_was : (ps : List Node) (original : List ℕ) (r : Reading) → whole ps original ≡ Ok r
-    → IsWhole r × (record { parts = ps; weight = row_weight (row ps); original = original } ≡ r)
-whole_was ps original r e = whole_by ps original r (row_has_token (row ps)) (nat_lt max_weight (row_weight (row ps))) refl refl e
+    → IsWhole r × (record { parts = ps; weight = sequence_weight (sequence ps); original = original } ≡ r)
+whole_was ps original r e = whole_by ps original r (sequence_has_token (sequence ps)) (nat_lt max_weight (sequence_weight (sequence ps))) refl refl e
 
 whole_read : (r : Reading) → IsWhole r → whole r.parts r.original ≡ Ok r
 whole_read r is =
-    let light : nat_lt max_weight (row_weight (row r.parts)) ≡ false = grind (arith, nat_tests, is.weight, is.light) in
+    let light : nat_lt max_weight (sequence_weight (sequence r.parts)) ≡ false = grind (arith, nat_tests, is.weight, is.light) in
     ap (λ b. cond (not b) (Err (fault_at 0 NoLetter))
-    (cond (nat_lt max_weight (row_weight (row r.parts))) (Err (fault_at 0 TooHeavy))
+    (cond (nat_lt max_weight (sequence_weight (sequence r.parts))) (Err (fault_at 0 TooHeavy))
     (done (record {
       parts = r.parts;
-      weight = row_weight (row r.parts);
+      weight = sequence_weight (sequence r.parts);
       original =
           r.original;
     })))) is.some_token
-    ∙ ap (λ b. cond b (Err (fault_at 0 TooHeavy)) (done (record { parts = r.parts; weight = row_weight (row r.parts); original = r.original }))) light
+    ∙ ap (λ b. cond b (Err (fault_at 0 TooHeavy)) (done (record { parts = r.parts; weight = sequence_weight (sequence r.parts); original = r.original }))) light
     ∙ ap (λ (w : ℕ). done (record { parts = r.parts; weight = w; original = r.original })) (sym is.weight)
 
 module _ (line_rules : LineRules) (words : List Phrase) where
@@ -162,13 +162,13 @@ module _ (line_rules : LineRules) (words : List Phrase) where
   unfolding run
   run_nothing s none = ap (λ (os : List Level). items.ended s.level.parts (parts_in os)) none
 
-  variable_was : (before es : List Element) (s : State) (r : Reading) (name original : List ℕ) (place : ℕ)
+  variable_was : (before es : List Element) (s : State) (r : Reading) (name original : List ℕ) (offset : ℕ)
       (pattern : List ℕ) (tree : Tree) → IsPattern pattern tree
-      → WasRead (before ++ rule (rules.variable name original place pattern) ∷ []) es
+      → WasRead (before ++ rule (rules.variable name original offset pattern) ∷ []) es
       (after_variable s name original tree) r
-      → WasRead before (rule (rules.variable name original place pattern) ∷ es) s r
+      → WasRead before (rule (rules.variable name original offset pattern) ∷ es) s r
   unfolding NotRefused run
-  variable_was before es s r name original place pattern tree is was =
+  variable_was before es s r name original offset pattern tree is was =
       record {
         items = variable name original tree ∷ was.items;
         are = one_item (is_variable is) was.are;
@@ -179,7 +179,7 @@ module _ (line_rules : LineRules) (words : List Phrase) where
       }
 
   abbrev pub after_begin : State → ℕ → State
-  after_begin s place = record s { level = new_level place; outer = s.level ∷ s.outer }
+  after_begin s offset = record s { level = new_level offset; outer = s.level ∷ s.outer }
 
   pub run_begin : (s : State) (is : List Item) → nat_lt (length s.outer) max_depth ≡ true
       → run s.level.parts (parts_in s.outer) (begin ∷ is) ≡ run [] (s.level.parts ∷ parts_in s.outer) is
@@ -187,12 +187,12 @@ module _ (line_rules : LineRules) (words : List Phrase) where
   run_begin s is small =
       ap (λ b. cond b (run [] (s.level.parts ∷ parts_in s.outer) is) None) (ap (λ n. ltb n max_depth) (length-map s.outer (λ l. l.parts)) ∙ small)
 
-  begin_was : (before es : List Element) (s : State) (r : Reading) (place : ℕ)
+  begin_was : (before es : List Element) (s : State) (r : Reading) (offset : ℕ)
       → nat_lt (length s.outer) max_depth ≡ true
-      → WasRead (before ++ rule (rules.begin place) ∷ []) es (after_begin s place) r
-      → WasRead before (rule (rules.begin place) ∷ es) s r
+      → WasRead (before ++ rule (rules.begin offset) ∷ []) es (after_begin s offset) r
+      → WasRead before (rule (rules.begin offset) ∷ es) s r
   unfolding NotRefused
-  begin_was before es s r place small was =
+  begin_was before es s r offset small was =
       record {
         items = begin ∷ was.items;
         are = one_item is_begin was.are;
@@ -203,19 +203,19 @@ module _ (line_rules : LineRules) (words : List Phrase) where
       }
 
   abbrev pub after_finish : State → Level → List Level → State
-  after_finish s o outer = record s { level = with_part (parts.optional (row s.level.parts)) o; outer = outer }
+  after_finish s o outer = record s { level = with_part (parts.optional (sequence s.level.parts)) o; outer = outer }
 
   pub run_finish : (s : State) (o : Level) (outer : List Level) (is : List Item) → s.outer ≡ o ∷ outer
       → run s.level.parts (parts_in s.outer) (templates.finish ∷ is)
-      ≡ run (o.parts ++ parts.optional (row s.level.parts) ∷ []) (parts_in outer) is
+      ≡ run (o.parts ++ parts.optional (sequence s.level.parts) ∷ []) (parts_in outer) is
   unfolding run
   run_finish s o outer is e = ap (λ (os : List Level). run s.level.parts (parts_in os) (templates.finish ∷ is)) e
 
-  finish_was : (before es : List Element) (s : State) (r : Reading) (place : ℕ) (o : Level) (outer : List Level)
-      → s.outer ≡ o ∷ outer → WasRead (before ++ rule (rules.finish place) ∷ []) es (after_finish s o outer) r
-      → WasRead before (rule (rules.finish place) ∷ es) s r
+  finish_was : (before es : List Element) (s : State) (r : Reading) (offset : ℕ) (o : Level) (outer : List Level)
+      → s.outer ≡ o ∷ outer → WasRead (before ++ rule (rules.finish offset) ∷ []) es (after_finish s o outer) r
+      → WasRead before (rule (rules.finish offset) ∷ es) s r
   unfolding NotRefused
-  finish_was before es s r place o outer e was =
+  finish_was before es s r offset o outer e was =
       record {
         items = templates.finish ∷ was.items;
         are = one_item is_finish was.are;
@@ -246,33 +246,33 @@ module _ (line_rules : LineRules) (words : List Phrase) where
         lasts = tt;
         is_whole = was.0;
       }
-  end_by before s r (o ∷ os) some e = not_done (fault_at s.level.place NotEnded) r e
+  end_by before s r (o ∷ os) some e = not_done (fault_at s.level.offset NotEnded) r e
 
-  variable_by : (es before : List Element) (s : State) (r : Reading) (name original : List ℕ) (place : ℕ)
+  variable_by : (es before : List Element) (s : State) (r : Reading) (name original : List ℕ) (offset : ℕ)
       (pattern : List ℕ) → Sound es → (p : Result Tree EreFault) → ere.reading pattern ≡ p
-      → then (meet_variable name original place p s) es ≡ Ok r → WasRead before (rule (rules.variable name original place pattern) ∷ es) s r
-  variable_by es before s r name original place pattern others (Err d) was e = not_done (reported place d) r e
-  variable_by es before s r name original place pattern others (Ok tree) was e =
-      variable_was before es s r name original place pattern tree (reading-IsPattern pattern tree was)
-      (others (before ++ rule (rules.variable name original place pattern) ∷ [])
-      (after_variable s name original tree) r (opens-variable before name original place pattern) e)
+      → then (meet_variable name original offset p s) es ≡ Ok r → WasRead before (rule (rules.variable name original offset pattern) ∷ es) s r
+  variable_by es before s r name original offset pattern others (Err d) was e = not_done (reported offset d) r e
+  variable_by es before s r name original offset pattern others (Ok tree) was e =
+      variable_was before es s r name original offset pattern tree (reading-IsPattern pattern tree was)
+      (others (before ++ rule (rules.variable name original offset pattern) ∷ [])
+      (after_variable s name original tree) r (opens-variable before name original offset pattern) e)
 
-  begin_by : (es before : List Element) (s : State) (r : Reading) (place : ℕ) → s.at_start ≡ opens_line before
+  begin_by : (es before : List Element) (s : State) (r : Reading) (offset : ℕ) → s.at_start ≡ opens_line before
       → Sound es → (t : Bool) → nat_lt (length s.outer) max_depth ≡ t
-      → then (cond t (Ok (after_begin s place)) (Err (fault_at place TooDeep))) es ≡ Ok r → WasRead before (rule (rules.begin place) ∷ es) s r
-  begin_by es before s r place starts others false small e = not_done (fault_at place TooDeep) r e
-  begin_by es before s r place starts others true small e =
-      begin_was before es s r place small
-      (others (before ++ rule (rules.begin place) ∷ []) (after_begin s place) r
-      (opens-begin s.at_start before place starts) e)
+      → then (cond t (Ok (after_begin s offset)) (Err (fault_at offset TooDeep))) es ≡ Ok r → WasRead before (rule (rules.begin offset) ∷ es) s r
+  begin_by es before s r offset starts others false small e = not_done (fault_at offset TooDeep) r e
+  begin_by es before s r offset starts others true small e =
+      begin_was before es s r offset small
+      (others (before ++ rule (rules.begin offset) ∷ []) (after_begin s offset) r
+      (opens-begin s.at_start before offset starts) e)
 
-  finish_by : (es before : List Element) (s : State) (r : Reading) (place : ℕ) → s.at_start ≡ opens_line before → Sound es → (os : List Level) → s.outer ≡ os
-      → then (meet_end place s.level os s) es ≡ Ok r → WasRead before (rule (rules.finish place) ∷ es) s r
-  finish_by es before s r place starts others [] is e = not_done (fault_at place EndWithoutBegin) r e
-  finish_by es before s r place starts others (o ∷ os) is e =
-      finish_was before es s r place o os is
-      (others (before ++ rule (rules.finish place) ∷ []) (after_finish s o os) r
-      (opens-finish s.at_start before place starts) e)
+  finish_by : (es before : List Element) (s : State) (r : Reading) (offset : ℕ) → s.at_start ≡ opens_line before → Sound es → (os : List Level) → s.outer ≡ os
+      → then (meet_end offset s.level os s) es ≡ Ok r → WasRead before (rule (rules.finish offset) ∷ es) s r
+  finish_by es before s r offset starts others [] is e = not_done (fault_at offset EndWithoutBegin) r e
+  finish_by es before s r offset starts others (o ∷ os) is e =
+      finish_was before es s r offset o os is
+      (others (before ++ rule (rules.finish offset) ∷ []) (after_finish s o os) r
+      (opens-finish s.at_start before offset starts) e)
 
   sound : (es : List Element) → Sound es
   unfolding read_on meet
@@ -281,10 +281,10 @@ module _ (line_rules : LineRules) (words : List Phrase) where
       text_was before es s r piece starts
       (sound es (before ++ text piece ∷ []) (meet_text line_rules words piece (next_of es) s) r
       (opens-text s.at_start before piece starts) e)
-  sound (rule (rules.variable name original place pattern) ∷ es) before s r starts e =
-      variable_by es before s r name original place pattern (sound es) (ere.reading pattern) refl e
-  sound (rule (rules.begin place) ∷ es) before s r starts e = begin_by es before s r place starts (sound es) (nat_lt (length s.outer) max_depth) refl e
-  sound (rule (rules.finish place) ∷ es) before s r starts e = finish_by es before s r place starts (sound es) s.outer refl e
+  sound (rule (rules.variable name original offset pattern) ∷ es) before s r starts e =
+      variable_by es before s r name original offset pattern (sound es) (ere.reading pattern) refl e
+  sound (rule (rules.begin offset) ∷ es) before s r starts e = begin_by es before s r offset starts (sound es) (nat_lt (length s.outer) max_depth) refl e
+  sound (rule (rules.finish offset) ∷ es) before s r starts e = finish_by es before s r offset starts (sound es) s.outer refl e
   sound (refused d ∷ es) before s r starts e = not_done d r e
 
   elements_found : (template : List ℕ) (r : Reading) → length template ≤ max_length
@@ -337,34 +337,34 @@ module _ (line_rules : LineRules) (words : List Phrase) where
       → run s.level.parts (parts_in s.outer) is ≡ Some ps
       → read_on line_rules words s (with_next es) ≡ whole ps (s.original ++ original_of es)
 
-  begin_reads : (before es : List Element) (place : ℕ) (is : List Item)
-      → Reads (before ++ rule (rules.begin place) ∷ []) es is → (s : State) (ps : List Node)
+  begin_reads : (before es : List Element) (offset : ℕ) (is : List Item)
+      → Reads (before ++ rule (rules.begin offset) ∷ []) es is → (s : State) (ps : List Node)
       → s.at_start ≡ opens_line before → (t : Bool) → nat_lt (length s.outer) max_depth ≡ t
       → run s.level.parts (parts_in s.outer) (begin ∷ is) ≡ Some ps
-      → then (cond t (Ok (after_begin s place)) (Err (fault_at place TooDeep))) es ≡ whole ps (s.original ++ original_of es)
+      → then (cond t (Ok (after_begin s offset)) (Err (fault_at offset TooDeep))) es ≡ whole ps (s.original ++ original_of es)
   unfolding run
-  begin_reads before es place is others s ps starts true small e =
-      others (after_begin s place) ps (opens-begin s.at_start before place starts) (sym (run_begin s is small) ∙ e)
-  begin_reads before es place is others s ps starts false small e =
+  begin_reads before es offset is others s ps starts true small e =
+      others (after_begin s offset) ps (opens-begin s.at_start before offset starts) (sym (run_begin s is small) ∙ e)
+  begin_reads before es offset is others s ps starts false small e =
       absurd (never (sym (ap (λ b. cond b (run [] (s.level.parts ∷ parts_in s.outer) is) None)
       (ap (λ n. ltb n max_depth) (length-map s.outer (λ l. l.parts)) ∙ small)) ∙ e))
     where
       never : None ≡ items.got ps → ⊥
       never h = cc
 
-  finish_reads : (before es : List Element) (place : ℕ) (is : List Item)
-      → Reads (before ++ rule (rules.finish place) ∷ []) es is → (s : State) (ps : List Node)
+  finish_reads : (before es : List Element) (offset : ℕ) (is : List Item)
+      → Reads (before ++ rule (rules.finish offset) ∷ []) es is → (s : State) (ps : List Node)
       → s.at_start ≡ opens_line before → (os : List Level) → s.outer ≡ os
       → run s.level.parts (parts_in s.outer) (templates.finish ∷ is) ≡ Some ps
-      → then (meet_end place s.level os s) es ≡ whole ps (s.original ++ original_of es)
+      → then (meet_end offset s.level os s) es ≡ whole ps (s.original ++ original_of es)
   unfolding run
-  finish_reads before es place is others s ps starts [] none e =
+  finish_reads before es offset is others s ps starts [] none e =
       absurd (never (sym (ap (λ (os : List Level). run s.level.parts (parts_in os) (templates.finish ∷ is)) none) ∙ e))
     where
       never : None ≡ items.got ps → ⊥
       never h = cc
-  finish_reads before es place is others s ps starts (o ∷ os) some e =
-      others (after_finish s o os) ps (opens-finish s.at_start before place starts) (sym (run_finish s o os is some) ∙ e)
+  finish_reads before es offset is others s ps starts (o ∷ os) some e =
+      others (after_finish s o os) ps (opens-finish s.at_start before offset starts) (sym (run_finish s o os is some) ∙ e)
 
   reads : {before es : List Element} {is : List Item} → AreItems line_rules words before es is → Reads before es is
   unfolding read_on meet run
@@ -373,15 +373,15 @@ module _ (line_rules : LineRules) (words : List Phrase) where
       reads others (meet_text line_rules words cs (next_of es) s) ps (opens-text s.at_start before cs starts) (sym (run_text s before cs es is starts) ∙ e)
       ∙ ap (whole ps) (append_assoc s.original (text_of cs) (original_of es))
   reads (one_item {before = before} {after = es} {is = is}
-      (is_variable {name = name} {original = o} {pattern = pattern} {place = place} {tree =
+      (is_variable {name = name} {original = o} {pattern = pattern} {offset = offset} {tree =
       tree} spelled) others) s ps starts e =
-      ap (λ (p : Result Tree EreFault). then (meet_variable name o place p s) es) (IsPattern-read pattern tree spelled)
-      ∙ reads others (after_variable s name o tree) ps (opens-variable before name o place pattern) e
+      ap (λ (p : Result Tree EreFault). then (meet_variable name o offset p s) es) (IsPattern-read pattern tree spelled)
+      ∙ reads others (after_variable s name o tree) ps (opens-variable before name o offset pattern) e
       ∙ ap (whole ps) (append_assoc s.original o (original_of es))
-  reads (one_item {before = before} {after = es} {is = is} (is_begin {place = place}) others) s ps starts e =
-      begin_reads before es place is (reads others) s ps starts (nat_lt (length s.outer) max_depth) refl e
-  reads (one_item {before = before} {after = es} {is = is} (is_finish {place = place}) others) s ps starts e =
-      finish_reads before es place is (reads others) s ps starts s.outer refl e
+  reads (one_item {before = before} {after = es} {is = is} (is_begin {offset = offset}) others) s ps starts e =
+      begin_reads before es offset is (reads others) s ps starts (nat_lt (length s.outer) max_depth) refl e
+  reads (one_item {before = before} {after = es} {is = is} (is_finish {offset = offset}) others) s ps starts e =
+      finish_reads before es offset is (reads others) s ps starts s.outer refl e
 
   -- the parts that elements say are read
   pub items_read : (es : List Element) (is : List Item) (ps : List Node) → AreItems line_rules words [] es is

@@ -5,7 +5,7 @@ use Rattle.lic_markup.specs.declared.fault.MarkupCause.{MarkupCause}
 use Rattle.lic_markup.specs.declared.fault.MarkupCause.TheVariants.{OutOfMemory}
 
 abbrev pub fault_at : ℕ → MarkupCause → MarkupFault
-fault_at place cause = record { place = place; cause = cause }
+fault_at offset cause = record { offset = offset; cause = cause }
 
 abbrev pub out_of_memory : MarkupFault
 out_of_memory = fault_at 0 OutOfMemory
@@ -21,19 +21,19 @@ map_ok f (Err e) = Err e
 
 -- a refusal is the fault that reading meets, or out of memory, reported at 0
 abbrev pub Fails : {Y : Type 0} → MarkupCause → ℕ → Result Y MarkupFault → Type 0
-Fails OutOfMemory place read = place ≡ 0
-Fails cause place read = read ≡ Err (fault_at place cause)
+Fails OutOfMemory offset read = offset ≡ 0
+Fails cause offset read = read ≡ Err (fault_at offset cause)
 
 -- what a function returned, seen by view, is what reading gives, unless memory ran out
 abbrev pub Gives : {X Y : Type 0} → (X → Y) → Result X MarkupFault → Result Y MarkupFault → Type 0
 Gives view (Ok x) read = read ≡ Ok (view x)
-Gives view (Err e) read = Fails e.cause e.place read
+Gives view (Err e) read = Fails e.cause e.offset read
 
 -- the fault is not lack of memory
 abbrev pub IsLasting : MarkupFault → Type 0
 IsLasting e = e.cause ≢ OutOfMemory
 
--- a fault as it is reported: lack of memory has no place
+-- a fault as it is reported: lack of memory has no offset
 abbrev pub reported_cause : MarkupCause → MarkupFault → MarkupFault
 reported_cause OutOfMemory e = out_of_memory
 reported_cause _ e = e

@@ -14,7 +14,7 @@ use Rattle.lic_markup.specs.Faults.{fault_at}
 use Rattle.lic_markup.specs.Rules as rules
 use Rattle.lic_markup.specs.Elements.{Element, text, rule, refused}
 use Rattle.lic_markup.specs.Markup.{IsRule}
-use Rattle.lic_markup.specs.Parts.{Node, row, row_weight, row_has_token}
+use Rattle.lic_markup.specs.Parts.{Node, sequence, sequence_weight, sequence_has_token}
 use Rattle.lic_markup.specs.Reading.{max_depth, max_length, max_weight, reported}
 use Rattle.lic_markup.specs.RuleFaults.{IsRuleFault}
 use Rattle.lic_markup.specs.Templates.{Item, HasNoRule, AreItems, AreParts}
@@ -32,34 +32,34 @@ pub data AreSound : ℕ → List Element → ℕ → Type 0 where
   none : {depth : ℕ} → AreSound depth [] depth
   piece : {depth end : ℕ} {cs : List Located} {es : List Element} → AreSound depth es end
       → AreSound depth (text cs ∷ es) end
-  variable : {depth end place : ℕ} {name original pattern : List ℕ} {tree : Tree} {es : List Element}
+  variable : {depth end offset : ℕ} {name original pattern : List ℕ} {tree : Tree} {es : List Element}
       → IsPattern pattern tree → AreSound depth es end
-      → AreSound depth (rule (rules.variable name original place pattern) ∷ es) end
-  begin : {depth end place : ℕ} {es : List Element} → depth < max_depth → AreSound (suc depth) es end
-      → AreSound depth (rule (rules.begin place) ∷ es) end
-  finish : {depth end place : ℕ} {es : List Element} → AreSound depth es end
-      → AreSound (suc depth) (rule (rules.finish place) ∷ es) end
+      → AreSound depth (rule (rules.variable name original offset pattern) ∷ es) end
+  begin : {depth end offset : ℕ} {es : List Element} → depth < max_depth → AreSound (suc depth) es end
+      → AreSound depth (rule (rules.begin offset) ∷ es) end
+  finish : {depth end offset : ℕ} {es : List Element} → AreSound depth es end
+      → AreSound (suc depth) (rule (rules.finish offset) ∷ es) end
 
 -- an element at fault, with so many optional parts open
 pub data IsAtFault : ℕ → Element → MarkupFault → Type 0 where
   -- a rule that is at fault by itself
   of_rule : {depth : ℕ} {e : MarkupFault} → IsAtFault depth (refused e) e
-  bad_pattern : {depth place : ℕ} {name original pattern : List ℕ} {e : EreFault} → ere.reading pattern ≡ Err e
-      → IsAtFault depth (rule (rules.variable name original place pattern)) (reported place e)
-  too_deep : {depth place : ℕ} → max_depth ≤ depth → IsAtFault depth (rule (rules.begin place)) (fault_at place TooDeep)
-  no_begin : {place : ℕ} → IsAtFault 0 (rule (rules.finish place)) (fault_at place EndWithoutBegin)
+  bad_pattern : {depth offset : ℕ} {name original pattern : List ℕ} {e : EreFault} → ere.reading pattern ≡ Err e
+      → IsAtFault depth (rule (rules.variable name original offset pattern)) (reported offset e)
+  too_deep : {depth offset : ℕ} → max_depth ≤ depth → IsAtFault depth (rule (rules.begin offset)) (fault_at offset TooDeep)
+  no_begin : {offset : ℕ} → IsAtFault 0 (rule (rules.finish offset)) (fault_at offset EndWithoutBegin)
 
 -- These elements lead from so many open optional parts to so many, however deep, and end none that is not counted.
 pub data Lead : ℕ → List Element → ℕ → Type 0 where
   nowhere : {open_parts : ℕ} → Lead open_parts [] open_parts
   on : {open_parts end : ℕ} {cs : List Located} {es : List Element} → Lead open_parts es end
       → Lead open_parts (text cs ∷ es) end
-  over : {open_parts end place : ℕ} {name original pattern : List ℕ} {es : List Element} → Lead open_parts es end
-      → Lead open_parts (rule (rules.variable name original place pattern) ∷ es) end
-  into : {open_parts end place : ℕ} {es : List Element} → Lead (suc open_parts) es end
-      → Lead open_parts (rule (rules.begin place) ∷ es) end
-  out : {open_parts end place : ℕ} {es : List Element} → Lead open_parts es end
-      → Lead (suc open_parts) (rule (rules.finish place) ∷ es) end
+  over : {open_parts end offset : ℕ} {name original pattern : List ℕ} {es : List Element} → Lead open_parts es end
+      → Lead open_parts (rule (rules.variable name original offset pattern) ∷ es) end
+  into : {open_parts end offset : ℕ} {es : List Element} → Lead (suc open_parts) es end
+      → Lead open_parts (rule (rules.begin offset) ∷ es) end
+  out : {open_parts end offset : ℕ} {es : List Element} → Lead open_parts es end
+      → Lead (suc open_parts) (rule (rules.finish offset) ∷ es) end
 
 -- the fault that decides among these elements
 pub data IsFirstFault (line_rules : LineRules) (words : List Phrase) (es : List Element) : MarkupFault → Type 0 where
@@ -67,14 +67,14 @@ pub data IsFirstFault (line_rules : LineRules) (words : List Phrase) (es : List 
       → es ≡ before ++ x ∷ after → AreSound 0 before depth → IsAtFault depth x e
       → IsFirstFault line_rules words es e
   -- the innermost open part: after its begin each part that begins is ended
-  not_ended : (before : List Element) {following : List Element} {place depth : ℕ}
-      → es ≡ before ++ rule (rules.begin place) ∷ following → AreSound 0 es (suc depth) → Lead 0 following 0
-      → IsFirstFault line_rules words es (fault_at place NotEnded)
+  not_ended : (before : List Element) {following : List Element} {offset depth : ℕ}
+      → es ≡ before ++ rule (rules.begin offset) ∷ following → AreSound 0 es (suc depth) → Lead 0 following 0
+      → IsFirstFault line_rules words es (fault_at offset NotEnded)
   no_token : {items : List Item} {ns : List Node} → AreItems line_rules words [] es items → AreParts 0 items ns
-      → row_has_token (row ns) ≡ false
+      → sequence_has_token (sequence ns) ≡ false
       → IsFirstFault line_rules words es (fault_at 0 NoLetter)
   too_heavy : {items : List Item} {ns : List Node} → AreItems line_rules words [] es items → AreParts 0 items ns
-      → row_has_token (row ns) ≡ true → max_weight < row_weight (row ns)
+      → sequence_has_token (sequence ns) ≡ true → max_weight < sequence_weight (sequence ns)
       → IsFirstFault line_rules words es (fault_at 0 TooHeavy)
 
 -- the fault that decides of a template, given as its bytes

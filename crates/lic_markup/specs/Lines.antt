@@ -2,8 +2,8 @@
 use Rattle.std.specs.Prelude.{ℕ, ◌==◌, ◌&&◌, ◌||◌, Bool, true, false, List, [], ◌∷◌, if◌then◌else◌}
 use Rattle.std.specs.Char.{is_whitespace}
 use Rattle.lic_kind.specs.Kinds.{is_dropped}
-use Rattle.lic_norm.specs.declared.pieces.Next.{Next}
-use Rattle.lic_norm.specs.declared.pieces.Next.TheVariants as next
+use Rattle.lic_pieces.specs.declared.pieces.Next.{Next}
+use Rattle.lic_pieces.specs.declared.pieces.Next.TheVariants as next
 use Rattle.lic_ere.specs.Located.{Located}
 use Rattle.lic_markup.specs.Signs.{new_line}
 use Rattle.lic_markup.specs.Rules.{variable, begin, finish}
@@ -27,9 +27,9 @@ line_ends following (x ∷ rest) = x.1 == new_line || (is_space x.1 && line_ends
 -- the same across a piece, or an optional rule; a variable is no white space, and after a refused rule is nothing
 abbrev pub line_ends_at : Bool → Element → Bool
 line_ends_at following (text piece) = line_ends following piece
-line_ends_at following (rule (variable name original place pattern)) = false
-line_ends_at following (rule (begin place)) = following
-line_ends_at following (rule (finish place)) = following
+line_ends_at following (rule (variable name original offset pattern)) = false
+line_ends_at following (rule (begin offset)) = following
+line_ends_at following (rule (finish offset)) = following
 line_ends_at following (refused e) = following
 
 -- from these elements on only white space and optional rules are to the end of the line
@@ -39,7 +39,7 @@ line_ends_in (e ∷ rest) = line_ends_at (line_ends_in rest) e
 
 -- what an element counts as, if the line continues from it
 abbrev pub counts_as : Element → Next
-counts_as (rule (variable name original place pattern)) = next.Var
+counts_as (rule (variable name original offset pattern)) = next.Var
 counts_as _ = next.Optional
 
 -- what follows in the line before these elements

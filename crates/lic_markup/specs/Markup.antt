@@ -7,12 +7,12 @@ use Rattle.lic_ere.specs.Located.{Located}
 use Rattle.lic_markup.specs.declared.rule.tag.Tag.{Tag}
 use Rattle.lic_markup.specs.declared.rule.tag.Tag.TheVariants.{Var, BeginOptional, EndOptional}
 use Rattle.lic_markup.specs.Signs.{double_quote, semicolon, equals, greater, backslash}
-use Rattle.lic_markup.specs.Texts.{text_of, place_of, unescaped, begins_with, begins_with_two, trim_start, trim_end}
+use Rattle.lic_markup.specs.Texts.{text_of, offset_of, unescaped, begins_with, begins_with_two, trim_start, trim_end}
 use Rattle.lic_markup.specs.Rules as rules
 use Rattle.lic_markup.specs.Rules.{Rule}
 
--- The characters cs are those in front and then rest, and that is the first place at which `stands` holds, which is given
--- what is before a place and what is from there on.
+-- The characters cs are those in front and then rest, and that is the first offset at which `stands` holds, which is given
+-- what is before an offset and what is from there on.
 pub record UpTo (stands : List Located → List Located → Bool) (cs front rest : List Located) : Type 0 where
   pub parts : cs ≡ front ++ rest
   pub here : stands front rest ≡ true
@@ -105,12 +105,12 @@ pub data IsRule : List Located → List Located → Rule → Type 0 where
       → IsTag cs following Var
       → IsFields (trim_start following) rest fs → values_of (codes "name") fs ≡ name ∷ [] → values_of (codes "original") fs ≡ original ∷ []
       → values_of (codes "match") fs ≡ pattern ∷ []
-      → IsRule cs rest (rules.variable (text_of (unescaped name)) (text_of (unescaped original)) (place_of pattern)
+      → IsRule cs rest (rules.variable (text_of (unescaped name)) (text_of (unescaped original)) (offset_of pattern)
       (text_of pattern))
   begin : {cs following rest : List Located} {fs : List (List ℕ × List Located)} → IsTag cs following BeginOptional
-      → IsFields (trim_start following) rest fs → IsRule cs rest (rules.begin (place_of cs))
+      → IsFields (trim_start following) rest fs → IsRule cs rest (rules.begin (offset_of cs))
   finish : {cs following rest : List Located} {fs : List (List ℕ × List Located)} → IsTag cs following EndOptional
-      → IsFields (trim_start following) rest fs → IsRule cs rest (rules.finish (place_of cs))
+      → IsFields (trim_start following) rest fs → IsRule cs rest (rules.finish (offset_of cs))
 
 -- a rule begins here
 abbrev pub BeginsRule : List Located → Type 0

@@ -2,8 +2,8 @@
 use Rattle.std.specs.Prelude.{ℕ, Bool, true, List, map, chars}
 use Rattle.lic_kind.specs.LineRules.{LineRules}
 use Rattle.lic_phrases.specs.Rewriting.{Phrase, rewritten}
-use Rattle.lic_norm.specs.Pieces.{piece_tokens}
-use Rattle.lic_norm.specs.declared.pieces.Next.{Next}
+use Rattle.lic_pieces.specs.Pieces.{piece_tokens}
+use Rattle.lic_pieces.specs.declared.pieces.Next.{Next}
 use Rattle.lic_words.specs.Expressions as words
 use Rattle.lic_words.specs.Expressions.{Expression}
 use Rattle.lic_ere.specs.Sets.{is_in}
@@ -19,14 +19,14 @@ abbrev mutual
   tree_words (char c) = words.letter c
   tree_words any = words.one (λ _. true)
   tree_words (set brackets) = words.one (is_in brackets)
-  tree_words (cat ts) = row_words ts
+  tree_words (cat ts) = sequence_words ts
   tree_words (alt ts) = choice_words ts
   tree_words (repeat t min max) = words.repeat min max (tree_words t)
 
   -- one after another
-  pub row_words : Trees → Expression
-  row_words no_tree = words.empty
-  row_words (one_more t ts) = words.cat (tree_words t) (row_words ts)
+  pub sequence_words : Trees → Expression
+  sequence_words no_tree = words.empty
+  sequence_words (one_more t ts) = words.cat (tree_words t) (sequence_words ts)
 
   -- any one of them
   pub choice_words : Trees → Expression
@@ -48,7 +48,7 @@ abbrev mutual
 
 -- the words of parts in a row
 abbrev pub parts_words : List Node → Expression
-parts_words ns = nodes_words (parts.row ns)
+parts_words ns = nodes_words (parts.sequence ns)
 
 -- the words of a part
 abbrev pub part_words : Part → Expression

@@ -1,8 +1,8 @@
 -- What the texts of a template's parts are like.
 use Rattle.std.specs.Prelude.{◌≡◌, ℕ, ◌<◌, ◌≤◌, List, length, map, IsUtf8}
-use Rattle.lic_norm.specs.PieceTexts.{IsPieceText}
+use Rattle.lic_pieces.specs.PieceTexts.{IsPieceText}
 use Rattle.lic_markup.specs.declared.part.Part.{Part}
-use Rattle.lic_markup.specs.Parts.{Node, Nodes, letters, variable, optional, no_node, one_more, row, part_of, weight_of, GiveToken}
+use Rattle.lic_markup.specs.Parts.{Node, Nodes, letters, variable, optional, no_node, one_more, sequence, part_of, weight_of, GiveToken}
 
 abbrev mutual
   -- each text has a letter and is in UTF-8, and each of its blanks that is neither first nor last is between two
@@ -18,7 +18,7 @@ abbrev mutual
 
 -- what every template keeps, of its parts and its weight
 pub record IsKept (parts : List Part) (weight : ℕ) : Type 0 where
-  pub texts : HavePieceTexts (row (map part_of parts))
+  pub texts : HavePieceTexts (sequence (map part_of parts))
   pub weighed : weight ≡ weight_of parts
   pub light : weight ≤ 131072
   pub some_token : GiveToken parts

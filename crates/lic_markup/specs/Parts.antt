@@ -22,15 +22,15 @@ mutual
     one_more : Node → Nodes → Nodes
 
 -- nodes in a row
-abbrev pub row : List Node → Nodes
-row [] = no_node
-row (n ∷ ns) = one_more n (row ns)
+abbrev pub sequence : List Node → Nodes
+sequence [] = no_node
+sequence (n ∷ ns) = one_more n (sequence ns)
 
 -- one part, with the node of each part inside it in its place
 abbrev pub part_node : Part-F Node → Node
 part_node (Part-F.Text text) = letters (string_bytes text)
 part_node (Part-F.Var name original ere) = variable (string_bytes name) (string_bytes original) (tree_of ere)
-part_node (Part-F.Optional parts) = optional (row parts.items)
+part_node (Part-F.Optional parts) = optional (sequence parts.items)
 
 abbrev pub part_of : Part → Node
 part_of = fold-Part Node part_node
@@ -40,11 +40,11 @@ abbrev mutual
   pub node_weight : Node → ℕ
   node_weight (letters text) = length (chars text)
   node_weight (variable name original pattern) = weight pattern
-  node_weight (optional ns) = row_weight ns
+  node_weight (optional ns) = sequence_weight ns
 
-  pub row_weight : Nodes → ℕ
-  row_weight no_node = 0
-  row_weight (one_more n ns) = node_weight n + row_weight ns
+  pub sequence_weight : Nodes → ℕ
+  sequence_weight no_node = 0
+  sequence_weight (one_more n ns) = node_weight n + sequence_weight ns
 
 -- some letter is no blank
 abbrev pub gives_token : List ℕ → Bool
@@ -55,19 +55,19 @@ abbrev mutual
   pub has_token : Node → Bool
   has_token (letters text) = gives_token text
   has_token (variable name original pattern) = false
-  has_token (optional ns) = row_has_token ns
+  has_token (optional ns) = sequence_has_token ns
 
-  pub row_has_token : Nodes → Bool
-  row_has_token no_node = false
-  row_has_token (one_more n ns) = has_token n || row_has_token ns
+  pub sequence_has_token : Nodes → Bool
+  sequence_has_token no_node = false
+  sequence_has_token (one_more n ns) = has_token n || sequence_has_token ns
 
 -- what parts weigh together
 abbrev pub weight_of : List Part → ℕ
-weight_of parts = row_weight (row (map part_of parts))
+weight_of parts = sequence_weight (sequence (map part_of parts))
 
 -- some text of the parts has a letter that is no blank
 abbrev pub GiveToken : List Part → Type 0
-GiveToken parts = IsTrue (row_has_token (row (map part_of parts)))
+GiveToken parts = IsTrue (sequence_has_token (sequence (map part_of parts)))
 
 -- what a template is to its callers: its parts, its weight, and its original text as UTF-8 bytes
 pub record TemplateValue : Type 0 where

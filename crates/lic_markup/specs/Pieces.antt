@@ -5,13 +5,13 @@ use Rattle.lic_ere.specs.Located.{Located, located_from}
 use Rattle.lic_markup.specs.declared.piece.Piece.{Piece}
 use Rattle.lic_markup.specs.Signs.{less}
 
--- the characters of a piece, each with its place
+-- the characters of a piece, each with its offset
 abbrev pub characters : Piece → List Located
-characters piece = located_from piece.place (chars piece.text.now)
+characters piece = located_from piece.offset (chars piece.text.now)
 
 -- a piece ends with all of another
 abbrev pub EndsWith : Piece → Piece → Type 0
-EndsWith all rest = (front : List ℕ) × (all.text.now ≡ front ++ rest.text.now) × (rest.place ≡ all.place + length front)
+EndsWith all rest = (front : List ℕ) × (all.text.now ≡ front ++ rest.text.now) × (rest.offset ≡ all.offset + length front)
 
 -- one of these characters is a `<`
 abbrev pub has_sign : List Located → Bool
@@ -21,7 +21,7 @@ has_sign cs = list_any (λ x. x.1 == less) cs
 pub record IsNextSign (piece here after : Piece) : Type 0 where
   pub ends : EndsWith piece here
   pub ends_after : EndsWith piece after
-  pub sign : characters here ≡ (here.place, less) ∷ characters after
+  pub sign : characters here ≡ (here.offset, less) ∷ characters after
   pub front : List Located
   pub parts : characters piece ≡ front ++ characters here
   pub first : has_sign front ≡ false

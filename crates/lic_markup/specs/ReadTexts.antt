@@ -1,14 +1,14 @@
 -- What the texts are like that a reader has so far.
 use Rattle.std.specs.Prelude.{List, [], ◌∷◌}
-use Rattle.lic_markup.specs.Parts.{row}
+use Rattle.lic_markup.specs.Parts.{sequence}
 use Rattle.lic_markup.specs.PartTexts.{HavePieceTexts}
 use Rattle.lic_markup.specs.Reading.{Level, State}
 
 -- the texts of these levels are such as pieces have
 abbrev pub HoldPieceTexts : List Level → Type 0
 HoldPieceTexts [] = Unit {0}
-HoldPieceTexts (l ∷ ls) = HavePieceTexts (row l.parts) × HoldPieceTexts ls
+HoldPieceTexts (l ∷ ls) = HavePieceTexts (sequence l.parts) × HoldPieceTexts ls
 
 -- so are those of the innermost level and of all levels round it
 abbrev pub HasReadTexts : State → Type 0
-HasReadTexts s = HavePieceTexts (row s.level.parts) × HoldPieceTexts s.outer
+HasReadTexts s = HavePieceTexts (sequence s.level.parts) × HoldPieceTexts s.outer

@@ -8,8 +8,8 @@ use Rattle.lic_ere.specs.Located.{Located, located}
 use Rattle.lic_ere.specs.Reading as ere
 use Rattle.lic_kind.specs.LineRules.{LineRules}
 use Rattle.lic_phrases.specs.Rewriting.{Phrase}
-use Rattle.lic_norm.specs.Pieces.{piece_of}
-use Rattle.lic_norm.specs.declared.pieces.Next.{Next}
+use Rattle.lic_pieces.specs.Pieces.{piece_of}
+use Rattle.lic_pieces.specs.declared.pieces.Next.{Next}
 use Rattle.lic_markup.specs.declared.fault.MarkupFault.{MarkupFault}
 use Rattle.lic_markup.specs.declared.fault.MarkupCause.TheVariants.{EndWithoutBegin, NotEnded, Pattern, TooDeep, TooHeavy, NoLetter, TooLong}
 use Rattle.lic_markup.specs.Texts.{text_of}
@@ -17,15 +17,15 @@ use Rattle.lic_markup.specs.Faults.{fault_at, out_of_memory, ◌>>=◌}
 use Rattle.lic_markup.specs.Rules as rules
 use Rattle.lic_markup.specs.Elements.{Element, text, rule, refused, elements}
 use Rattle.lic_markup.specs.Lines.{at_line_start, next_after, with_next}
-use Rattle.lic_markup.specs.Parts.{Node, letters, variable, optional, row, row_weight, row_has_token, Reading}
+use Rattle.lic_markup.specs.Parts.{Node, letters, variable, optional, sequence, sequence_weight, sequence_has_token, Reading}
 
 -- The template, or an open optional part: where it begins, and its parts so far.
 pub record Level : Type 0 where
-  pub place : ℕ
+  pub offset : ℕ
   pub parts : List Node
 
 abbrev pub new_level : ℕ → Level
-new_level place = record { place = place; parts = [] }
+new_level offset = record { offset = offset; parts = [] }
 
 abbrev pub with_part : Node → Level → Level
 with_part n l = record l { parts = l.parts ++ n ∷ [] }
@@ -56,18 +56,18 @@ meet_text line_rules words piece follows s =
       at_start = at_line_start s.at_start piece;
     }
 
--- how the fault of a pattern is reported, which begins at a place
+-- how the fault of a pattern is reported, which begins at an offset
 abbrev pub reported_cause : EreCause → ℕ → EreFault → MarkupFault
-reported_cause OutOfMemory place e = out_of_memory
-reported_cause cause place e = fault_at place (Pattern e)
+reported_cause OutOfMemory offset e = out_of_memory
+reported_cause cause offset e = fault_at offset (Pattern e)
 
 abbrev pub reported : ℕ → EreFault → MarkupFault
-reported place e = reported_cause e.cause place e
+reported offset e = reported_cause e.cause offset e
 
--- a variable whose pattern has been read; `place` is that of the pattern
+-- a variable whose pattern has been read; `offset` is that of the pattern
 abbrev pub meet_variable : List ℕ → List ℕ → ℕ → Result Tree EreFault → State → Result State MarkupFault
-meet_variable name original place (Err e) s = Err (reported place e)
-meet_variable name original place (Ok tree) s =
+meet_variable name original offset (Err e) s = Err (reported offset e)
+meet_variable name original offset (Ok tree) s =
     Ok (record {
       level = with_part (variable name original tree) s.level;
       outer = s.outer;
@@ -80,22 +80,22 @@ abbrev pub max_depth : ℕ
 max_depth = 64
 
 abbrev pub meet_begin : ℕ → State → Result State MarkupFault
-meet_begin place s =
-    if nat_lt (length s.outer) max_depth then Ok (record s { level = new_level place; outer = s.level ∷ s.outer })
-    else Err (fault_at place TooDeep)
+meet_begin offset s =
+    if nat_lt (length s.outer) max_depth then Ok (record s { level = new_level offset; outer = s.level ∷ s.outer })
+    else Err (fault_at offset TooDeep)
 
 -- the innermost optional part becomes a part of the level round it
 abbrev pub meet_end : ℕ → Level → List Level → State → Result State MarkupFault
-meet_end place level [] s = Err (fault_at place EndWithoutBegin)
-meet_end place level (o ∷ outer) s = Ok (record s { level = with_part (optional (row level.parts)) o; outer = outer })
+meet_end offset level [] s = Err (fault_at offset EndWithoutBegin)
+meet_end offset level (o ∷ outer) s = Ok (record s { level = with_part (optional (sequence level.parts)) o; outer = outer })
 
 -- one more piece or rule
 unfoldable pub meet : LineRules → List Phrase → Element → Next → State → Result State MarkupFault
 meet line_rules words (text piece) follows s = Ok (meet_text line_rules words piece follows s)
-meet line_rules words (rule (rules.variable name original place pattern)) follows s =
-    meet_variable name original place (ere.reading pattern) s
-meet line_rules words (rule (rules.begin place)) follows s = meet_begin place s
-meet line_rules words (rule (rules.finish place)) follows s = meet_end place s.level s.outer s
+meet line_rules words (rule (rules.variable name original offset pattern)) follows s =
+    meet_variable name original offset (ere.reading pattern) s
+meet line_rules words (rule (rules.begin offset)) follows s = meet_begin offset s
+meet line_rules words (rule (rules.finish offset)) follows s = meet_end offset s.level s.outer s
 meet line_rules words (refused e) follows s = Err e
 
 -- the greatest weight
@@ -105,14 +105,14 @@ max_weight = 131072
 -- a template is refused without a token in it, and above a weight
 abbrev pub whole : List Node → List ℕ → Result Reading MarkupFault
 whole parts original =
-    if not (row_has_token (row parts)) then Err (fault_at 0 NoLetter)
-    else (if nat_lt max_weight (row_weight (row parts)) then Err (fault_at 0 TooHeavy)
-    else Ok (record { parts = parts; weight = row_weight (row parts); original = original }))
+    if not (sequence_has_token (sequence parts)) then Err (fault_at 0 NoLetter)
+    else (if nat_lt max_weight (sequence_weight (sequence parts)) then Err (fault_at 0 TooHeavy)
+    else Ok (record { parts = parts; weight = sequence_weight (sequence parts); original = original }))
 
 -- after the last element: an optional part that is open is refused, the innermost one
 abbrev pub finish : Level → List Level → List ℕ → Result Reading MarkupFault
 finish level [] original = whole level.parts original
-finish level (o ∷ outer) original = Err (fault_at level.place NotEnded)
+finish level (o ∷ outer) original = Err (fault_at level.offset NotEnded)
 
 -- the elements that are left
 unfoldable pub read_on : LineRules → List Phrase → State → List (Element × Next) → Result Reading MarkupFault

@@ -7,11 +7,11 @@ use Rattle.lic_markup.specs.declared.rule.tag.Tag.TheVariants.{Var, BeginOptiona
 use Rattle.lic_markup.specs.declared.fault.MarkupFault.{MarkupFault}
 use Rattle.lic_markup.specs.declared.fault.MarkupCause.TheVariants.{NotClosed, FieldMissing, FieldTwice, NoEquals}
 use Rattle.lic_markup.specs.Signs.{double_quote, semicolon, equals, greater}
-use Rattle.lic_markup.specs.Texts.{text_of, place_of, begins_with, begins_with_two, trim_start, trim_end}
+use Rattle.lic_markup.specs.Texts.{text_of, offset_of, begins_with, begins_with_two, trim_start, trim_end}
 use Rattle.lic_markup.specs.Faults.{fault_at}
 use Rattle.lic_markup.specs.Markup.{UpTo, IsTag, IsField, ends_field, ends_name, ends_quote, ends_value}
 
--- At none of these characters `stands` holds, which is given what is before a place and what is from there on.
+-- At none of these characters `stands` holds, which is given what is before an offset and what is from there on.
 pub record Nowhere (stands : List Located → List Located → Bool) (cs : List Located) : Type 0 where
   pub never : (before : List Located) (x : Located) (after : List Located) → cs ≡ before ++ x ∷ after
       → stands before (x ∷ after) ≡ false
@@ -54,35 +54,35 @@ pub data IsOpenValue : List Located → Type 0 where
   quoted : {quote : Located} {cs : List Located} → quote.1 ≡ double_quote → Nowhere ends_quote cs → IsOpenValue (quote ∷ cs)
   plain : {cs : List Located} → begins_with double_quote cs ≡ false → Nowhere ends_value cs → IsOpenValue cs
 
--- The field that the characters cs begin with is at fault, in a rule at this place, after fields of these names.
-pub data IsFieldFault (place : ℕ) (tag : Tag) (names : List (List ℕ)) (cs : List Located) : MarkupFault → Type 0 where
+-- The field that the characters cs begin with is at fault, in a rule at this offset, after fields of these names.
+pub data IsFieldFault (offset : ℕ) (tag : Tag) (names : List (List ℕ)) (cs : List Located) : MarkupFault → Type 0 where
   -- the text ends before `=`, `;` and `>>`: the rule is not closed
-  open_name : Nowhere ends_name cs → IsFieldFault place tag names cs (fault_at place NotClosed)
+  open_name : Nowhere ends_name cs → IsFieldFault offset tag names cs (fault_at offset NotClosed)
   -- `;` or `>>` comes before any `=`: told at the field's first byte
   no_equals : {name rest : List Located} → UpTo ends_name cs name rest → begins_with equals rest ≡ false
-      → IsFieldFault place tag names cs (fault_at (place_of cs) NoEquals)
+      → IsFieldFault offset tag names cs (fault_at (offset_of cs) NoEquals)
   -- met at the `=` of the second one, whatever its value is: told at the first byte of its name
   twice : {name following : List Located} {sign : Located} → UpTo ends_name cs name (sign ∷ following) → sign.1 ≡ equals
       → is_second tag (text_of (trim_end name)) names ≡ true
-      → IsFieldFault place tag names cs (fault_at (place_of cs) FieldTwice)
+      → IsFieldFault offset tag names cs (fault_at (offset_of cs) FieldTwice)
   -- the text ends in the value: the rule is not closed
   open_value : {name following : List Located} {sign : Located} → UpTo ends_name cs name (sign ∷ following) → sign.1 ≡ equals
       → is_second tag (text_of (trim_end name)) names ≡ false → IsOpenValue (trim_start following)
-      → IsFieldFault place tag names cs (fault_at place NotClosed)
+      → IsFieldFault offset tag names cs (fault_at offset NotClosed)
 
--- the fault that is met where the characters cs come after sound fields of these names, in a rule at this place
-pub data IsFaultAfter (place : ℕ) (tag : Tag) (names : List (List ℕ)) : List Located → MarkupFault → Type 0 where
+-- the fault that is met where the characters cs come after sound fields of these names, in a rule at this offset
+pub data IsFaultAfter (offset : ℕ) (tag : Tag) (names : List (List ℕ)) : List Located → MarkupFault → Type 0 where
   -- neither `;` nor `>>` is there
-  not_closed : {cs : List Located} → ends_field cs ≡ false → IsFaultAfter place tag names cs (fault_at place NotClosed)
+  not_closed : {cs : List Located} → ends_field cs ≡ false → IsFaultAfter offset tag names cs (fault_at offset NotClosed)
   -- the field after a `;` is at fault
   in_field : {x : Located} {cs : List Located} {e : MarkupFault} → x.1 ≡ semicolon → ends_field (trim_start cs) ≡ false
-      → IsFieldFault place tag names (trim_start cs) e → IsFaultAfter place tag names (x ∷ cs) e
+      → IsFieldFault offset tag names (trim_start cs) e → IsFaultAfter offset tag names (x ∷ cs) e
   -- at the rule's end a field that it needs was not there
   missing : {cs : List Located} (name : List ℕ) → begins_with_two greater cs ≡ true → is_among name (needed tag) ≡ true
-      → is_among name names ≡ false → IsFaultAfter place tag names cs (fault_at place FieldMissing)
+      → is_among name names ≡ false → IsFaultAfter offset tag names cs (fault_at offset FieldMissing)
 
 -- the fault of the rule that the characters cs begin with
 pub data IsRuleFault (cs : List Located) : MarkupFault → Type 0 where
   at_fault : {following rest : List Located} {tag : Tag} {names : List (List ℕ)} {e : MarkupFault} → IsTag cs following tag
-      → AreSoundFields tag (trim_start following) rest names → IsFaultAfter (place_of cs) tag names rest e
+      → AreSoundFields tag (trim_start following) rest names → IsFaultAfter (offset_of cs) tag names rest e
       → IsRuleFault cs e

@@ -11,7 +11,7 @@ use Rattle.lic_markup.specs.declared.rule.fields.Field.TheVariants.{Name, Origin
 use Rattle.lic_markup.specs.declared.fault.MarkupFault.{MarkupFault}
 use Rattle.lic_markup.specs.declared.fault.MarkupCause.TheVariants.{NotClosed, FieldMissing, FieldTwice, NoEquals}
 use Rattle.lic_markup.specs.Signs.{double_quote, semicolon, less, equals, greater, backslash}
-use Rattle.lic_markup.specs.Texts.{text_of, place_of, unescaped, begins_with, begins_with_two, spaces, trim_start, trim_end}
+use Rattle.lic_markup.specs.Texts.{text_of, offset_of, unescaped, begins_with, begins_with_two, spaces, trim_start, trim_end}
 use Rattle.lic_markup.specs.Faults.{fault_at, map_ok, ◌>>=◌}
 
 -- ---- tags
@@ -68,7 +68,7 @@ has_value Other values = false
 abbrev pub with_value : Field → List Located → Values → Values
 with_value Name value values = record values { name = Some (text_of (unescaped value)) }
 with_value Original value values = record values { original = Some (text_of (unescaped value)) }
-with_value Match value values = record values { pattern = Some (place_of value, text_of value) }
+with_value Match value values = record values { pattern = Some (offset_of value, text_of value) }
 with_value Other value values = values
 
 -- `;` or `>>` is here
@@ -79,7 +79,7 @@ at_end rest = begins_with semicolon rest || begins_with_two greater rest
 abbrev pub one_more : Located → List Located × ℕ → List Located × ℕ
 one_more x read = (x ∷ read.0, 1 + read.1)
 
--- The faults of a field, by the places of its rule and of the field: the text ends in it, it has no `=`, it is a second one.
+-- The faults of a field, by the offsets of its rule and of the field: the text ends in it, it has no `=`, it is a second one.
 abbrev pub open_field : ℕ → ℕ → MarkupFault
 open_field rule start = fault_at rule NotClosed
 
@@ -90,7 +90,7 @@ abbrev pub second_field : ℕ → ℕ → MarkupFault
 second_field rule start = fault_at start FieldTwice
 
 -- A field's name with the white space after it: the characters up to the first `=`, which is taken too.
--- `rule` and `start` are the places of the rule and of the field.
+-- `rule` and `start` are the offsets of the rule and of the field.
 unfoldable pub name_at : ℕ → ℕ → List Located → Result (List Located × ℕ) MarkupFault
 name_at rule start [] = Err (open_field rule start)
 name_at rule start (x ∷ rest) =
@@ -144,7 +144,7 @@ field_or_none rule tag values [] = Ok (values, 0)
 field_or_none rule tag values (x ∷ rest) =
     if at_end (x ∷ rest) then Ok (values, 0) else field_at rule x.0 tag values (x ∷ rest)
 
--- The fields of a rule up to its `>>`, from a place where `;` or `>>` must be. Each `;` takes the field after it;
+-- The fields of a rule up to its `>>`, from an offset where `;` or `>>` must be. Each `;` takes the field after it;
 -- the characters of that field are skipped.
 unfoldable pub fields_at : ℕ → Tag → Values → ℕ → List Located → Result (Values × ℕ) MarkupFault
 fields_at rule tag values skip [] = Err (fault_at rule NotClosed)
@@ -159,8 +159,8 @@ fields_at rule tag values zero (x ∷ rest) =
 
 -- ---- rules
 
--- a rule: a variable by its name, its original value, and the place and the text of its pattern; or the begin or the
--- end of an optional part, by its place
+-- a rule: a variable by its name, its original value, and the offset and the text of its pattern; or the begin or the
+-- end of an optional part, by its offset
 pub data Rule : Type 0 where
   variable : List ℕ → List ℕ → ℕ → List ℕ → Rule
   begin : ℕ → Rule
@@ -173,12 +173,12 @@ complete rule _ _ _ = Err (fault_at rule FieldMissing)
 
 -- the rule of a tag and its values, at its end
 abbrev pub rule_of : ℕ → Tag → Values → Result Rule MarkupFault
-rule_of place Var values = complete place values.name values.original values.pattern
-rule_of place BeginOptional values = Ok (begin place)
-rule_of place EndOptional values = Ok (finish place)
+rule_of offset Var values = complete offset values.name values.original values.pattern
+rule_of offset BeginOptional values = Ok (begin offset)
+rule_of offset EndOptional values = Ok (finish offset)
 
 -- the rule of this tag, from after the tag on
 unfoldable pub rule_at : ℕ → Tag → List Located → Result (Rule × ℕ) MarkupFault
-rule_at place tag rest =
-    fields_at place tag no_values 0 (trim_start rest) >>= λ fields.
-    map_ok (λ rule. (rule, spaces rest + fields.1)) (rule_of place tag fields.0)
+rule_at offset tag rest =
+    fields_at offset tag no_values 0 (trim_start rest) >>= λ fields.
+    map_ok (λ rule. (rule, spaces rest + fields.1)) (rule_of offset tag fields.0)

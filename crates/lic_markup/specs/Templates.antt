@@ -6,16 +6,16 @@ use Rattle.lic_ere.specs.Located.{Located, located}
 use Rattle.lic_ere.specs.Trees.{Tree}
 use Rattle.lic_kind.specs.LineRules.{LineRules}
 use Rattle.lic_phrases.specs.Rewriting.{Phrase}
-use Rattle.lic_norm.specs.Pieces.{piece_of}
-use Rattle.lic_norm.specs.declared.pieces.Next.{Next}
-use Rattle.lic_norm.specs.declared.pieces.Next.TheVariants as next
+use Rattle.lic_pieces.specs.Pieces.{piece_of}
+use Rattle.lic_pieces.specs.declared.pieces.Next.{Next}
+use Rattle.lic_pieces.specs.declared.pieces.Next.TheVariants as next
 use Rattle.lic_markup.specs.Signs.{new_line}
 use Rattle.lic_markup.specs.Texts.{text_of}
 use Rattle.lic_markup.specs.Rules as rules
 use Rattle.lic_markup.specs.Elements.{Element, text, rule, refused}
 use Rattle.lic_markup.specs.Lines.{is_space, ends_line}
 use Rattle.lic_markup.specs.Parts as parts
-use Rattle.lic_markup.specs.Parts.{Node, Reading, row, row_weight, row_has_token}
+use Rattle.lic_markup.specs.Parts.{Node, Reading, sequence, sequence_weight, sequence_has_token}
 use Rattle.lic_markup.specs.Reading.{max_depth, max_length, max_weight}
 use Rattle.lic_markup.specs.Markup.{BeginsRule, IsRule}
 
@@ -26,7 +26,7 @@ abbrev pub HasNoRule : List Located → List Located → Type 0
 HasNoRule piece following = (before : List Located) (x : Located) (after : List Located) → piece ≡ before ++ x ∷ after
     → BeginsRule (x ∷ (after ++ following)) → ⊥
 
--- pieces of text and rules in turn: a piece goes up to the first place at which a rule begins, or to the end
+-- pieces of text and rules in turn: a piece goes up to the first offset at which a rule begins, or to the end
 pub data AreElements : List Located → List Element → Type 0 where
   last : {piece : List Located} → HasNoRule piece [] → AreElements piece (text piece ∷ [])
   further : {cs piece following rest : List Located} {r : rules.Rule} {es : List Element} → cs ≡ piece ++ following
@@ -37,9 +37,9 @@ pub data AreElements : List Located → List Element → Type 0 where
 abbrev pub original_of : List Element → List ℕ
 original_of [] = []
 original_of (text piece ∷ es) = text_of piece ++ original_of es
-original_of (rule (rules.variable name original place pattern) ∷ es) = original ++ original_of es
-original_of (rule (rules.begin place) ∷ es) = original_of es
-original_of (rule (rules.finish place) ∷ es) = original_of es
+original_of (rule (rules.variable name original offset pattern) ∷ es) = original ++ original_of es
+original_of (rule (rules.begin offset) ∷ es) = original_of es
+original_of (rule (rules.finish offset) ∷ es) = original_of es
 original_of (refused e ∷ es) = original_of es
 
 -- ---- lines
@@ -52,9 +52,9 @@ pub data Sign : Type 0 where
 
 abbrev pub signs_in : Element → List Sign
 signs_in (text piece) = map (λ x. character x.1) piece
-signs_in (rule (rules.variable name original place pattern)) = variable_rule ∷ []
-signs_in (rule (rules.begin place)) = optional_rule ∷ []
-signs_in (rule (rules.finish place)) = optional_rule ∷ []
+signs_in (rule (rules.variable name original offset pattern)) = variable_rule ∷ []
+signs_in (rule (rules.begin offset)) = optional_rule ∷ []
+signs_in (rule (rules.finish offset)) = optional_rule ∷ []
 signs_in (refused e) = []
 
 abbrev pub signs_of : List Element → List Sign
@@ -83,7 +83,7 @@ opens_line before = is_clear (reverse (signs_of before))
 
 -- what a rule after a piece counts as, if the line continues there
 abbrev pub first_rule : List Element → Next
-first_rule (rule (rules.variable name original place pattern) ∷ es) = next.Var
+first_rule (rule (rules.variable name original offset pattern) ∷ es) = next.Var
 first_rule _ = next.Optional
 
 -- what follows a piece in its last line: nothing where the piece ends that line, or where only white space and optional rules
@@ -106,11 +106,11 @@ pub data IsItem (line_rules : LineRules) (words : List Phrase) (before after : L
   is_piece : {cs : List Located}
       → IsItem line_rules words before after (text cs)
       (letters (piece_of line_rules words (opens_line before) (follows cs after) (text_of cs)))
-  is_variable : {name original pattern : List ℕ} {place : ℕ} {tree : Tree} → IsPattern pattern tree
-      → IsItem line_rules words before after (rule (rules.variable name original place pattern))
+  is_variable : {name original pattern : List ℕ} {offset : ℕ} {tree : Tree} → IsPattern pattern tree
+      → IsItem line_rules words before after (rule (rules.variable name original offset pattern))
       (variable name original tree)
-  is_begin : {place : ℕ} → IsItem line_rules words before after (rule (rules.begin place)) begin
-  is_finish : {place : ℕ} → IsItem line_rules words before after (rule (rules.finish place)) finish
+  is_begin : {offset : ℕ} → IsItem line_rules words before after (rule (rules.begin offset)) begin
+  is_finish : {offset : ℕ} → IsItem line_rules words before after (rule (rules.finish offset)) finish
 
 -- the elements after some
 pub data AreItems (line_rules : LineRules) (words : List Phrase) : List Element → List Element → List Item
@@ -132,7 +132,7 @@ pub data AreParts : ℕ → List Item → List Node → Type 0 where
       → AreParts depth (variable name original tree ∷ is) (parts.variable name original tree ∷ ns)
   optional : {depth : ℕ} {is js : List Item} {ns ms : List Node} → depth < max_depth → AreParts (suc depth) is ns
       → AreParts depth js ms
-      → AreParts depth (begin ∷ (is ++ finish ∷ js)) (parts.optional (row ns) ∷ ms)
+      → AreParts depth (begin ∷ (is ++ finish ∷ js)) (parts.optional (sequence ns) ∷ ms)
 
 -- ---- templates
 
@@ -144,7 +144,7 @@ pub record IsTemplate (line_rules : LineRules) (words : List Phrase) (template :
   pub items : List Item
   pub read : AreItems line_rules words [] elements items
   pub nested : AreParts 0 items says.parts
-  pub some_token : IsTrue (row_has_token (row says.parts))
-  pub weight : says.weight ≡ row_weight (row says.parts)
+  pub some_token : IsTrue (sequence_has_token (sequence says.parts))
+  pub weight : says.weight ≡ sequence_weight (sequence says.parts)
   pub light : says.weight ≤ max_weight
   pub original : says.original ≡ original_of elements

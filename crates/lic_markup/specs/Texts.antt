@@ -1,4 +1,4 @@
--- Characters of a template with their places: white space at the ends, and the text that they write.
+-- Characters of a template with their offsets: white space at the ends, and the text that they write.
 use Rattle.std.specs.Prelude.{ℕ, ◌+◌, ◌==◌, ◌&&◌, Bool, true, false, List, [], ◌∷◌, ◌++◌, drop, if◌then◌else◌}
 use Rattle.std.specs.Char.{is_whitespace, encode_utf8}
 use Rattle.lic_ere.specs.Located.{Located}
@@ -10,9 +10,9 @@ text_of [] = []
 text_of (x ∷ rest) = encode_utf8 x.1 ++ text_of rest
 
 -- the byte at which the first character begins; 0 where there is none
-abbrev pub place_of : List Located → ℕ
-place_of [] = 0
-place_of (x ∷ rest) = x.0
+abbrev pub offset_of : List Located → ℕ
+offset_of [] = 0
+offset_of (x ∷ rest) = x.0
 
 -- this character comes first
 abbrev pub begins_with : ℕ → List Located → Bool

@@ -2,7 +2,7 @@
 use Rattle.std.specs.Prelude.{List, map, reverse}
 use Rattle.std.specs.Option.{option_map}
 use Rattle.std.specs.String.{string_bytes}
-use Rattle.lic_norm.specs.declared.pieces.Next.{Next}
+use Rattle.lic_pieces.specs.declared.pieces.Next.{Next}
 use Rattle.lic_markup.specs.declared.rule.fields.Values as coded_values
 use Rattle.lic_markup.specs.declared.rule.Rule.{Rule}
 use Rattle.lic_markup.specs.declared.rule.Rule.TheVariants as coded_rules
@@ -25,10 +25,10 @@ values_of v =
     }
 
 abbrev pub rule_of : Rule → rules.Rule
-rule_of (coded_rules.Variable name original place pattern) =
-    rules.variable (string_bytes name) (string_bytes original) place (string_bytes pattern)
-rule_of (coded_rules.Begin place) = rules.begin place
-rule_of (coded_rules.End place) = rules.finish place
+rule_of (coded_rules.Variable name original offset pattern) =
+    rules.variable (string_bytes name) (string_bytes original) offset (string_bytes pattern)
+rule_of (coded_rules.Begin offset) = rules.begin offset
+rule_of (coded_rules.End offset) = rules.finish offset
 
 abbrev pub element_of : Element → elements.Element
 element_of (coded_elements.Text piece) = elements.text (characters piece)
@@ -40,7 +40,7 @@ abbrev pub placed_of : Element × Next → elements.Element × Next
 placed_of p = (element_of p.0, p.1)
 
 abbrev pub level_of : Level → reading.Level
-level_of l = record { place = l.place; parts = map part_of l.parts.items }
+level_of l = record { offset = l.offset; parts = map part_of l.parts.items }
 
 -- the levels from the inside out
 abbrev pub levels_of : List Level → List reading.Level

@@ -8,7 +8,7 @@ times min None = max min 1
 times min (Some n) = n
 
 abbrev mutual
-  -- each letter, `.` and bracket weighs 1; rows and alternatives weigh the sum
+  -- each letter, `.` and bracket weighs 1; sequences and alternatives weigh the sum
   pub weight : Tree → ℕ
   weight empty = 0
   weight (char c) = 1

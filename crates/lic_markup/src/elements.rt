@@ -35,21 +35,21 @@ fn lasting(fault: MarkupFault) -> Result<MarkupFault, AllocError>
     }
 }
 
-/// Pushes the rule at a place whose tag was read, or its fault, and gives what follows the rule.
+/// Pushes the rule at an offset whose tag was read, or its fault, and gives what follows the rule.
 fn push_rule<'t>(
     alloc: Global,
     found: &mut Vec<Element<'t>>,
-    place: usize,
+    offset: usize,
     tag: Tag,
     rest: Piece<'t>,
 ) -> Result<Option<Piece<'t>>, AllocError>
     ensures found { OnOk result
         (map element_of found.new.items
-        ≡ map element_of found.old.items ++ element_read (rule_at place tag (characters rest.entry)) ∷ []) }
+        ≡ map element_of found.old.items ++ element_read (rule_at offset tag (characters rest.entry)) ∷ []) }
     ensures following { IfOk result (λ following. option_map characters following
-        ≡ after_rule (characters rest.entry) (rule_at place tag (characters rest.entry))) }
+        ≡ after_rule (characters rest.entry) (rule_at offset tag (characters rest.entry))) }
 {
-    match read_rule(alloc, place, tag, rest) {
+    match read_rule(alloc, offset, tag, rest) {
         Ok((rule, following)) => {
             found.push(Element::Rule(rule))?;
             Ok(Some(following))
@@ -68,11 +68,11 @@ fn next_sign(rest: Piece<'_>) -> Option<(Piece<'_>, Piece<'_>)>
 {
     let count = memchr(b'<', rest.text.as_bytes())?;
     let here = Piece {
-        place: rest.place + count,
+        offset: rest.offset + count,
         text: &rest.text[count..],
     };
     let after = Piece {
-        place: here.place + 1,
+        offset: here.offset + 1,
         text: &here.text[1..],
     };
     Some((here, after))
@@ -91,7 +91,7 @@ pub fn pieces_and_rules(alloc: Global, text: &str) -> Result<Vec<Element<'_>>, A
             continue;
         };
         found.push(Element::Text(piece.up_to(sign)))?;
-        let Some(following) = push_rule(alloc, &mut found, sign.place, tag, following)? else {
+        let Some(following) = push_rule(alloc, &mut found, sign.offset, tag, following)? else {
             return Ok(found);
         };
         piece = following;

@@ -68,10 +68,10 @@ impl MarkupCause {
 
 /// Why a template was refused, and where: the fault that decides.
 #[derive(Clone, Copy, Debug, PartialEq, Eq, Error)]
-#[error("{} at {place}: {cause}", .cause.code())]
+#[error("{} at {offset}: {cause}", .cause.code())]
 pub struct MarkupFault {
     /// A byte of the template; 0 where memory ran out and where the whole template is meant.
-    pub place: usize,
+    pub offset: usize,
     pub cause: MarkupCause,
 }
 
@@ -84,7 +84,7 @@ impl MarkupFault {
         ensures { result ≡ out_of_memory }
     {
         MarkupFault {
-            place: 0,
+            offset: 0,
             cause: MarkupCause::OutOfMemory,
         }
     }

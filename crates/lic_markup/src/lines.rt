@@ -8,7 +8,7 @@ use crate::elements::Element;
 use crate::piece::Piece;
 use crate::rule::Rule;
 use lic_kind::is_dropped;
-use lic_norm::Next;
+use lic_pieces::Next;
 use std::alloc::{AllocError, Global};
 
 /// Whether a character is white space, or a dropped character, which counts as such here.

@@ -1,7 +1,7 @@
 //! Parts of a template.
 ghost use Rattle.std.specs.Prelude.{◌≡◌, ◌≤◌, map};
 ghost use Rattle.std.specs.String.{string_bytes};
-ghost use Rattle.lic_markup.specs.Parts.{GiveToken, part_of, row, weight_of};
+ghost use Rattle.lic_markup.specs.Parts.{GiveToken, part_of, sequence, weight_of};
 ghost use Rattle.lic_markup.specs.PartTexts.{HavePieceTexts};
 
 use lic_ere::Ere;
@@ -55,7 +55,7 @@ impl Model for Template {
 impl Template {
     /// A template of these parts.
     pub(crate) fn new(parts: Vec<Part>, weight: u64, mut original: String) -> Template
-        requires texts { HavePieceTexts (row (map part_of parts.items)) }
+        requires texts { HavePieceTexts (sequence (map part_of parts.items)) }
         requires weighed { weight ≡ weight_of parts.items }
         requires light { weight ≤ 131072 }
         requires some_token { GiveToken parts.items }
@@ -79,7 +79,7 @@ impl Template {
     }
 
     /// What the template weighs (this project's profile): the letters of its texts, blanks included, and the weights
-    /// of its patterns, where each letter, `.` and bracket weighs 1, rows and alternatives the sum, and a repetition
+    /// of its patterns, where each letter, `.` and bracket weighs 1, sequences and alternatives the sum, and a repetition
     /// its body as often as it may occur.
     pub fn weight(&self) -> u64
         ensures { result ≡ self.now.weight }
@@ -97,7 +97,7 @@ impl Template {
 
 /// The texts of a template's parts have letters, and blanks within them are between letters of words.
 pub fn texts_are_those_of_pieces(template: &Template)
-    ensures { HavePieceTexts (row (map part_of template.now.parts)) }
+    ensures { HavePieceTexts (sequence (map part_of template.now.parts)) }
 {
     let _ = &template.parts;
 }

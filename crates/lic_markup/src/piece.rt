@@ -6,10 +6,10 @@ ghost use Rattle.std.specs.Str.{is_utf8};
 #[derive(Clone, Copy)]
 pub struct Piece<'t> {
     /// The byte of the template at which they begin.
-    pub place: usize,
+    pub offset: usize,
     pub text: &'t str,
     ghost utf8: { IsTrue (is_utf8 text.now) },
-    ghost fits: { place + length text.now < 2 ^ 64 },
+    ghost fits: { offset + length text.now < 2 ^ 64 },
 }
 
 impl<'t> Piece<'t> {
@@ -23,7 +23,7 @@ impl<'t> Piece<'t> {
         ensures { characters result ≡ located template.now }
     {
         Piece {
-            place: 0,
+            offset: 0,
             text: template,
         }
     }
@@ -35,7 +35,7 @@ impl<'t> Piece<'t> {
         self.text
     }
 
-    /// The first character with its place, and those after it.
+    /// The first character with its offset, and those after it.
     pub fn split_first(self) -> Option<((usize, char), Piece<'t>)>
         ensures some { IfSome result (λ x. characters self.entry ≡ x.0 ∷ characters x.1) }
         ensures end { IfSome result (λ x. EndsWith self.entry x.1) }
@@ -44,13 +44,13 @@ impl<'t> Piece<'t> {
         let mut chars = self.text.chars();
         let character = chars.next()?;
         let rest = Piece {
-            place: self.place + character.len_utf8(),
+            offset: self.offset + character.len_utf8(),
             text: chars.as_str(),
         };
-        Some(((self.place, character), rest))
+        Some(((self.offset, character), rest))
     }
 
-    /// The last character with its place, and those before it.
+    /// The last character with its offset, and those before it.
     pub fn split_last(self) -> Option<((usize, char), Piece<'t>)>
         ensures some { IfSome result (λ x. characters self.entry ≡ characters x.1 ++ x.0 ∷ []) }
         ensures none { IfNone result (length (characters self.entry) ≡ 0) }
@@ -58,10 +58,10 @@ impl<'t> Piece<'t> {
         let mut chars = self.text.chars();
         let character = chars.next_back()?;
         let before = Piece {
-            place: self.place,
+            offset: self.offset,
             text: chars.as_str(),
         };
-        Some(((self.place + before.text.len(), character), before))
+        Some(((self.offset + before.text.len(), character), before))
     }
 
     /// Without the first character.
@@ -81,7 +81,7 @@ impl<'t> Piece<'t> {
     {
         let end = self.text.len() - rest.text.len();
         Piece {
-            place: self.place,
+            offset: self.offset,
             text: &self.text[..end],
         }
     }

@@ -4,7 +4,7 @@ ghost use Rattle.std.specs.String.{string_bytes};
 ghost use Rattle.lic_ere.specs.Reading as patterns;
 ghost use Rattle.lic_kind.specs.LineRules.{rules_of};
 ghost use Rattle.lic_markup.specs.Faults.{Gives, reported};
-ghost use Rattle.lic_markup.specs.Parts.{GiveToken, part_of, row, template_of, weight_of};
+ghost use Rattle.lic_markup.specs.Parts.{GiveToken, part_of, sequence, template_of, weight_of};
 ghost use Rattle.lic_markup.specs.PartTexts.{HavePieceTexts};
 ghost use Rattle.lic_markup.specs.Pieces.{characters};
 ghost use Rattle.lic_markup.specs.ReadTexts.{HasReadTexts};
@@ -20,7 +20,8 @@ use crate::rule::Rule;
 use crate::weights::{have_token, parts_weight};
 use lic_ere::{EreCause, EreFault, read};
 use lic_kind::Rules;
-use lic_norm::{Next, PieceBuffers, Words, piece};
+use lic_norm::Words;
+use lic_pieces::{Next, PieceBuffers, piece};
 use std::alloc::{AllocError, Global};
 use std::mem;
 
@@ -34,17 +35,17 @@ const MAX_WEIGHT: u64 = 131_072;
 #[derive(Drop)]
 pub struct Level {
     /// The byte at which it begins.
-    pub place: usize,
+    pub offset: usize,
     pub parts: Vec<Part>,
 }
 
 impl Level {
     /// A level with nothing read.
-    fn new(alloc: Global, place: usize) -> Level
-        ensures { level_of result ≡ reading.new_level place }
+    fn new(alloc: Global, offset: usize) -> Level
+        ensures { level_of result ≡ reading.new_level offset }
     {
         Level {
-            place,
+            offset,
             parts: Vec::new(alloc),
         }
     }
@@ -74,25 +75,25 @@ pub struct Reader {
     buffers: PieceBuffers,
 }
 
-/// How the fault of a pattern is reported, which begins at a place.
-fn reported(place: usize, fault: EreFault) -> MarkupFault
-    ensures { result ≡ reading.reported place fault }
+/// How the fault of a pattern is reported, which begins at an offset.
+fn reported(offset: usize, fault: EreFault) -> MarkupFault
+    ensures { result ≡ reading.reported offset fault }
 {
     match fault.cause {
         EreCause::OutOfMemory => MarkupFault::out_of_memory(),
         _ => MarkupFault {
-            place,
+            offset,
             cause: MarkupCause::Pattern(fault),
         },
     }
 }
 
-/// A fault as it is reported: lack of memory has no place.
+/// A fault as it is reported: lack of memory has no offset.
 fn reported_again(fault: MarkupFault) -> MarkupFault
     ensures { result ≡ reported fault }
 {
     match fault.cause {
-        MarkupCause::OutOfMemory => MarkupFault { place: 0, ..fault },
+        MarkupCause::OutOfMemory => MarkupFault { offset: 0, ..fault },
         _ => fault,
     }
 }
@@ -147,22 +148,22 @@ impl Reader {
         Ok(())
     }
 
-    /// A variable, whose pattern begins at a place.
+    /// A variable, whose pattern begins at an offset.
     fn variable(
         &mut self,
         alloc: Global,
         name: String,
         original: String,
-        place: usize,
+        offset: usize,
         pattern: String,
     ) -> Result<(), MarkupFault>
         ensures { Gives (λ _. state_of self.new) result
-            (reading.meet_variable (string_bytes name) (string_bytes original) place
+            (reading.meet_variable (string_bytes name) (string_bytes original) offset
             (patterns.reading (string_bytes pattern)) (state_of self.old)) }
     {
         let ere = match read(alloc, &pattern) {
             Ok(ere) => ere,
-            Err(fault) => return Err(reported(place, fault)),
+            Err(fault) => return Err(reported(offset, fault)),
         };
         self.original.push_str(&original)?;
         self.level.parts.push(Part::Var {
@@ -174,31 +175,31 @@ impl Reader {
         Ok(())
     }
 
-    /// The begin of an optional part at a place.
-    fn begin(&mut self, alloc: Global, place: usize) -> Result<(), MarkupFault>
+    /// The begin of an optional part at an offset.
+    fn begin(&mut self, alloc: Global, offset: usize) -> Result<(), MarkupFault>
         ensures { Gives (λ _. state_of self.new) result
-            (reading.meet_begin place (state_of self.old)) }
+            (reading.meet_begin offset (state_of self.old)) }
     {
         if self.outer.len() >= MAX_DEPTH {
             return Err(MarkupFault {
-                place,
+                offset,
                 cause: MarkupCause::TooDeep,
             });
         }
-        let outer = mem::replace(&mut self.level, Level::new(alloc, place));
+        let outer = mem::replace(&mut self.level, Level::new(alloc, offset));
         self.outer.push(outer)?;
         Ok(())
     }
 
-    /// The end of an optional part at a place.
-    fn end(&mut self, place: usize) -> Result<(), MarkupFault>
+    /// The end of an optional part at an offset.
+    fn end(&mut self, offset: usize) -> Result<(), MarkupFault>
         ensures { Gives (λ _. state_of self.new) result
-            (reading.meet_end place (state_of self.old).level (state_of self.old).outer
+            (reading.meet_end offset (state_of self.old).level (state_of self.old).outer
             (state_of self.old)) }
     {
         let Some(outer) = self.outer.pop() else {
             return Err(MarkupFault {
-                place,
+                offset,
                 cause: MarkupCause::EndWithoutBegin,
             });
         };
@@ -229,12 +230,12 @@ impl Reader {
                 Rule::Variable {
                     name,
                     original,
-                    place,
+                    offset,
                     pattern,
                 },
-            ) => self.variable(alloc, name, original, place, pattern),
-            Element::Rule(Rule::Begin(place)) => self.begin(alloc, place),
-            Element::Rule(Rule::End(place)) => self.end(place),
+            ) => self.variable(alloc, name, original, offset, pattern),
+            Element::Rule(Rule::Begin(offset)) => self.begin(alloc, offset),
+            Element::Rule(Rule::End(offset)) => self.end(offset),
             Element::Refused(fault) => Err(reported_again(fault)),
         }
     }
@@ -260,7 +261,7 @@ impl Reader {
 
 /// The template of these levels, unless an optional part is open.
 fn ended(level: Level, outer: Vec<Level>, original: String) -> Result<Template, MarkupFault>
-    requires { HavePieceTexts (row (map part_of level.parts.items)) }
+    requires { HavePieceTexts (sequence (map part_of level.parts.items)) }
     ensures exact { Gives template_of result
         (reading.finish (level_of level) (levels_of outer.items) (string_bytes original)) }
     ensures weighed { IfOk result (λ t. t.weight ≡ weight_of t.parts) }
@@ -269,7 +270,7 @@ fn ended(level: Level, outer: Vec<Level>, original: String) -> Result<Template, 
 {
     if !outer.is_empty() {
         return Err(MarkupFault {
-            place: level.place,
+            offset: level.offset,
             cause: MarkupCause::NotEnded,
         });
     }
@@ -278,7 +279,7 @@ fn ended(level: Level, outer: Vec<Level>, original: String) -> Result<Template, 
 
 /// The template of these parts, unless it has no token or is too heavy.
 fn whole(parts: Vec<Part>, original: String) -> Result<Template, MarkupFault>
-    requires { HavePieceTexts (row (map part_of parts.items)) }
+    requires { HavePieceTexts (sequence (map part_of parts.items)) }
     ensures exact { Gives template_of result
         (reading.whole (map part_of parts.items) (string_bytes original)) }
     ensures weighed { IfOk result (λ t. t.weight ≡ weight_of t.parts) }
@@ -287,14 +288,14 @@ fn whole(parts: Vec<Part>, original: String) -> Result<Template, MarkupFault>
 {
     if !have_token(&parts) {
         return Err(MarkupFault {
-            place: 0,
+            offset: 0,
             cause: MarkupCause::NoLetter,
         });
     }
     let weight = parts_weight(&parts);
     if weight > MAX_WEIGHT {
         return Err(MarkupFault {
-            place: 0,
+            offset: 0,
             cause: MarkupCause::TooHeavy,
         });
     }

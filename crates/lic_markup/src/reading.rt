@@ -14,7 +14,8 @@ use crate::lines::with_next;
 use crate::part::Template;
 use crate::reader::Reader;
 use lic_kind::Rules;
-use lic_norm::{Next, Words};
+use lic_norm::Words;
+use lic_pieces::Next;
 use std::alloc::Global;
 
 /// How many bytes a template may have.
@@ -72,7 +73,7 @@ pub fn read_template(
 {
     if text.len() > MAX_LENGTH {
         return Err(MarkupFault {
-            place: 0,
+            offset: 0,
             cause: MarkupCause::TooLong,
         });
     }

@@ -23,7 +23,7 @@ pub enum Rule {
         name: String,
         original: String,
         /// The byte at which the pattern begins.
-        place: usize,
+        offset: usize,
         pattern: String,
     },
     /// The begin of an optional part, at a byte.
@@ -32,7 +32,7 @@ pub enum Rule {
     End(usize),
 }
 
-/// The rule at a place that a tag and its values are.
+/// The rule at an offset that a tag and its values are.
 fn complete(rule: usize, tag: Tag, values: Values) -> Result<Rule, MarkupFault>
     ensures { Gives rule_of result (rules.rule_of rule tag (values_of values)) }
 {
@@ -40,7 +40,7 @@ fn complete(rule: usize, tag: Tag, values: Values) -> Result<Rule, MarkupFault>
         Tag::BeginOptional => Ok(Rule::Begin(rule)),
         Tag::EndOptional => Ok(Rule::End(rule)),
         Tag::Var => {
-            if let (Some(name), Some(original), Some((place, pattern))) = (
+            if let (Some(name), Some(original), Some((offset, pattern))) = (
                 values.name,
                 values.original,
                 values.pattern,
@@ -48,30 +48,30 @@ fn complete(rule: usize, tag: Tag, values: Values) -> Result<Rule, MarkupFault>
                 return Ok(Rule::Variable {
                     name,
                     original,
-                    place,
+                    offset,
                     pattern,
                 });
             }
             Err(MarkupFault {
-                place: rule,
+                offset: rule,
                 cause: MarkupCause::FieldMissing,
             })
         }
     }
 }
 
-/// The rule at a place whose tag was read, from after the tag on, and what follows the rule.
+/// The rule at an offset whose tag was read, from after the tag on, and what follows the rule.
 #[tactic(auto, unfolding(crate::specs::Rules::rule_at))]
 pub fn read_rule(
     alloc: Global,
-    place: usize,
+    offset: usize,
     tag: Tag,
     rest: Piece<'_>,
 ) -> Result<(Rule, Piece<'_>), MarkupFault>
     ensures { Gives (λ x. (rule_of x.0, characters x.1)) result
         (map_ok (with_remaining (characters rest.entry))
-        (rules.rule_at place tag (characters rest.entry))) }
+        (rules.rule_at offset tag (characters rest.entry))) }
 {
-    let (values, following) = fields(alloc, place, tag, trim_start(rest))?;
-    Ok((complete(place, tag, values)?, following))
+    let (values, following) = fields(alloc, offset, tag, trim_start(rest))?;
+    Ok((complete(offset, tag, values)?, following))
 }

@@ -2,17 +2,17 @@
 ghost use Rattle.std.specs.Prelude.{◌≡◌, IfOk};
 ghost use Rattle.std.specs.String.{string_bytes};
 ghost use Rattle.lic_markup.specs.Pieces.{characters};
-ghost use Rattle.lic_markup.specs.Texts.{text_of, place_of, begins_with, begins_with_two, trim_start, trim_end, unescaped};
+ghost use Rattle.lic_markup.specs.Texts.{text_of, offset_of, begins_with, begins_with_two, trim_start, trim_end, unescaped};
 
 use crate::piece::Piece;
 use std::alloc::{AllocError, Global};
 
 /// The byte at which the first character begins; 0 where there is none.
-pub fn place_of(text: Piece<'_>) -> usize
-    ensures { result ≡ place_of (characters text.entry) }
+pub fn offset_of(text: Piece<'_>) -> usize
+    ensures { result ≡ offset_of (characters text.entry) }
 {
     match text.split_first() {
-        Some(((place, _), _)) => place,
+        Some(((offset, _), _)) => offset,
         None => 0,
     }
 }

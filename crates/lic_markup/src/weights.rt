@@ -41,7 +41,7 @@ pub fn pattern_weight(ere: &Ere) -> u64
 /// What patterns weigh together, or `ENOUGH` where that is more.
 #[cycle(pattern_weight)]
 fn pattern_weights(subs: &[Ere]) -> u64
-    ensures { result ≡ min (weights.weights (trees.row (map trees.tree_of subs.now))) 131073 }
+    ensures { result ≡ min (weights.weights (trees.sequence (map trees.tree_of subs.now))) 131073 }
 {
     let mut sum: u64 = 0;
     for i in 0..subs.len() {
@@ -79,7 +79,7 @@ fn part_weight(part: &Part) -> u64
 /// What parts weigh together, or `ENOUGH` where that is more.
 #[cycle(part_weight)]
 pub fn parts_weight(parts: &[Part]) -> u64
-    ensures { result ≡ min (nodes.row_weight (nodes.row (map nodes.part_of parts.now))) 131073 }
+    ensures { result ≡ min (nodes.sequence_weight (nodes.sequence (map nodes.part_of parts.now))) 131073 }
 {
     let mut sum: u64 = 0;
     for i in 0..parts.len() {
@@ -110,7 +110,7 @@ fn has_token(part: &Part) -> bool
 /// Whether some text of these parts has a letter that is no blank.
 #[cycle(has_token)]
 pub fn have_token(parts: &[Part]) -> bool
-    ensures { result ≡ nodes.row_has_token (nodes.row (map nodes.part_of parts.now)) }
+    ensures { result ≡ nodes.sequence_has_token (nodes.sequence (map nodes.part_of parts.now)) }
 {
     let mut any = false;
     for i in 0..parts.len() {

@@ -7,7 +7,7 @@ use std::fmt::Write;
 use std::test::Fail;
 
 /// Triples as lists in a table write them: first token, last token, template.
-type Rows<'a> = &'a [(usize, usize, usize)];
+type Listed<'a> = &'a [(usize, usize, usize)];
 
 fn triple(first: usize, last: usize, template: usize) -> Triple {
     Triple {
@@ -17,9 +17,9 @@ fn triple(first: usize, last: usize, template: usize) -> Triple {
     }
 }
 
-fn triples(alloc: Global, rows: Rows) -> Result<Vec<Triple>, AllocError> {
+fn triples(alloc: Global, listed: Listed) -> Result<Vec<Triple>, AllocError> {
     let mut all = Vec::new(alloc);
-    for (first, last, template) in rows {
+    for (first, last, template) in listed {
         all.push(triple(*first, *last, *template))?;
     }
     Ok(all)
@@ -38,8 +38,8 @@ fn shown(alloc: Global, triples: &[Triple]) -> Result<String, Fail> {
 }
 
 /// The tight triples of a list, or the outer ones.
-fn kept(alloc: Global, rows: Rows, is_outer: bool) -> Result<String, Fail> {
-    let all = triples(alloc, rows)?;
+fn kept(alloc: Global, listed: Listed, is_outer: bool) -> Result<String, Fail> {
+    let all = triples(alloc, listed)?;
     let kept = if is_outer {
         outer(alloc, &all)?
     } else {
@@ -50,7 +50,7 @@ fn kept(alloc: Global, rows: Rows, is_outer: bool) -> Result<String, Fail> {
 
 #[test]
 fn keeps_tight_and_outer_triples(rt: HostRuntime) -> Result<(), Fail> {
-    let table: &[(Rows, &str, &str)] = &[
+    let table: &[(Listed, &str, &str)] = &[
         (
             &[(0, 1, 1), (0, 2, 1), (0, 3, 0), (1, 2, 0)],
             "0-1-1 1-2-0 ",
@@ -80,7 +80,7 @@ fn keeps_tight_and_outer_triples(rt: HostRuntime) -> Result<(), Fail> {
             "0-2-0 0-1-1 1-2-2 ",
             "0-2-0 ",
         ),
-        // the rows of a template `.+ of .+` in `x of y of z`
+        // the triples of a template `.+ of .+` in `x of y of z`
         (
             &[(0, 2, 0), (0, 3, 0), (0, 4, 0), (1, 4, 0), (2, 4, 0)],
             "0-2-0 2-4-0 ",
@@ -89,9 +89,9 @@ fn keeps_tight_and_outer_triples(rt: HostRuntime) -> Result<(), Fail> {
         // a last token before the first is a pair of numbers like any other
         (&[(5, 1, 0), (3, 4, 0), (4, 2, 1)], "5-1-0 4-2-1 ", "4-2-1 "),
     ];
-    for (rows, wanted_tight, wanted_outer) in table {
+    for (listed, wanted_tight, wanted_outer) in table {
         for (is_outer, wanted) in [(false, wanted_tight), (true, wanted_outer)] {
-            let kept = kept(rt.alloc(), rows, is_outer)?;
+            let kept = kept(rt.alloc(), listed, is_outer)?;
             assert_eq!(rt; kept.as_str(), *wanted);
         }
     }

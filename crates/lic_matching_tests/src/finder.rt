@@ -28,18 +28,18 @@ fn shown(alloc: Global, mut finder: Finder<'_>) -> Result<String, Fail> {
 }
 
 /// First token, last token, template.
-type Row = (usize, usize, usize);
+type Numbers = (usize, usize, usize);
 
-fn triple_of(row: &Row) -> Triple {
+fn triple_of(numbers: &Numbers) -> Triple {
     Triple {
-        first: row.0,
-        last: row.1,
-        template: row.2,
+        first: numbers.0,
+        last: numbers.1,
+        template: numbers.2,
     }
 }
 
 /// The matches of some templates in a text after a triple.
-fn found_after(alloc: Global, after: &Row) -> Result<String, Fail> {
+fn found_after(alloc: Global, after: &Numbers) -> Result<String, Fail> {
     let set = set_of(alloc, &["x y", "x", "x y z", "y"])?;
     let text = text_of(alloc, "X y z x")?;
     shown(alloc, Finder::resume(alloc, &set, &text, triple_of(after))?)
@@ -49,7 +49,7 @@ fn found_after(alloc: Global, after: &Row) -> Result<String, Fail> {
 fn continues_after_any_triple(rt: HostRuntime) -> Result<(), Fail> {
     // with numbers that no token and no template has
     let most = usize::MAX;
-    let table: &[(Row, &str)] = &[
+    let table: &[(Numbers, &str)] = &[
         ((0, 0, 1), "0-1-0 0-2-2 1-1-3 3-3-1 "),
         ((0, 1, most), "0-2-2 1-1-3 3-3-1 "),
         ((0, most, 0), "1-1-3 3-3-1 "),
@@ -64,16 +64,16 @@ fn continues_after_any_triple(rt: HostRuntime) -> Result<(), Fail> {
 }
 
 /// Whether a template matches a range of a text.
-fn is_found(alloc: Global, row: &Row) -> Result<bool, Fail> {
+fn is_found(alloc: Global, numbers: &Numbers) -> Result<bool, Fail> {
     let set = set_of(alloc, &["foo bar"])?;
     let text = text_of(alloc, "Foo   bar foo bar")?;
-    Ok(is_match(alloc, &set, &text, triple_of(row))?)
+    Ok(is_match(alloc, &set, &text, triple_of(numbers))?)
 }
 
 #[test]
 fn tells_whether_one_triple_is_a_match(rt: HostRuntime) -> Result<(), Fail> {
     let most = usize::MAX;
-    let table: &[(Row, bool)] = &[
+    let table: &[(Numbers, bool)] = &[
         ((0, 1, 0), true),
         ((2, 3, 0), true),
         ((0, 3, 0), false),
@@ -83,8 +83,8 @@ fn tells_whether_one_triple_is_a_match(rt: HostRuntime) -> Result<(), Fail> {
         ((9, 9, 0), false),
         ((most, most, most), false),
     ];
-    for (row, wanted) in table {
-        assert_eq!(rt; is_found(rt.alloc(), row)?, *wanted, "{row:?}");
+    for (numbers, wanted) in table {
+        assert_eq!(rt; is_found(rt.alloc(), numbers)?, *wanted, "{numbers:?}");
     }
     Ok(())
 }
@@ -195,7 +195,7 @@ fn counts_the_steps_of_worked_texts(rt: HostRuntime) -> Result<(), Fail> {
 }
 
 /// The steps of a finder that has given its first match after a triple.
-fn steps_to_first(alloc: Global, after: &Row) -> Result<u64, Fail> {
+fn steps_to_first(alloc: Global, after: &Numbers) -> Result<u64, Fail> {
     let set = set_of(alloc, &["z"])?;
     let text = text_of(alloc, "abc abc abc z")?;
     let mut finder = Finder::resume(alloc, &set, &text, triple_of(after))?;

@@ -5,11 +5,11 @@ ghost use Rattle.std.specs.Prelude.{◌≡◌, ◌≤◌, length};
 use crate::lent::{CHOICE, OF, OPTIONAL, TWO, Templates, lend};
 use crate::refused::{Refused, retried};
 use lic_auto::{Back, Run};
+use lic_cases::{Bits, and_into, any_from, is_zero, or_into, shift_up_one};
 use lic_ere::Ere;
 use lic_find::Finder;
 use lic_kind::{Kind, Rules, kind_of};
 use lic_norm::{Feeder, Text, Words};
-use lic_rows::{Bits, and_into, any_from, is_zero, or_into, shift_up_one};
 use lic_set::{Set, Triple};
 use lic_stream::{Counted, Sink, Source};
 use std::alloc::{AllocError, Global};
@@ -36,33 +36,33 @@ fn a_request_between_signs_is_counted(rt: HostRuntime) {
 
 /// Templates, an input, its matches, and the first template that describes all of the input.
 #[derive(Clone, Copy)]
-struct Row {
+struct Case {
     templates: Templates<'static>,
     input: &'static [u8],
     matches: &'static [(usize, usize, usize)],
     whole: Option<usize>,
 }
 
-const ROWS: &[Row] = &[
-    Row {
+const CASES: &[Case] = &[
+    Case {
         templates: OPTIONAL,
         input: b"a b c d",
         matches: &[(0, 3, 0)],
         whole: Some(0),
     },
-    Row {
+    Case {
         templates: TWO,
         input: b"foo bar",
         matches: &[(0, 1, 0), (0, 1, 1)],
         whole: Some(0),
     },
-    Row {
+    Case {
         templates: OF,
         input: b"x of y of z",
         matches: &[(0, 2, 0), (0, 3, 0), (0, 4, 0), (1, 4, 0), (2, 4, 0)],
         whole: Some(0),
     },
-    Row {
+    Case {
         templates: CHOICE,
         input: b"bxx end yz end bxxxx end",
         matches: &[(0, 1, 0), (1, 1, 0), (2, 3, 0), (3, 3, 0), (5, 5, 0)],
@@ -147,11 +147,11 @@ fn tells_templates(set: &Set) -> bool {
 fn machines_take_no_memory_once_made(rt: HostRuntime) {
     let words = Words::none(rt.alloc());
     let rules = Rules::profile(rt.alloc());
-    for row in ROWS {
+    for case in CASES {
         let mut lent = None;
         retried(&rt, || {
-            let templates = row.templates;
-            lend(rt.alloc(), templates, row.input, &words, &rules, &mut lent)
+            let templates = case.templates;
+            lend(rt.alloc(), templates, case.input, &words, &rules, &mut lent)
         });
         let (set, text) = lent.expect(&rt, "a set and a text");
         let mut made = None;
@@ -162,10 +162,10 @@ fn machines_take_no_memory_once_made(rt: HostRuntime) {
         let mut machines = made.expect(&rt, "machines");
         let is_begun = sign(rt.alloc());
         let is_told = tells_tokens(&text) && tells_templates(&set);
-        let is_found = finds(&mut machines.finder, row.matches);
-        let is_read = reads_on(&mut machines.run, &text, row.whole)
+        let is_found = finds(&mut machines.finder, case.matches);
+        let is_read = reads_on(&mut machines.run, &text, case.whole)
             && reads_back(&mut machines.back, &text)
-            && reads_on(&mut machines.run, &text, row.whole)
+            && reads_on(&mut machines.run, &text, case.whole)
             && reads_back(&mut machines.back, &text);
         let is_ended = sign(rt.alloc());
         assert!(rt; is_begun & is_ended & is_told & is_found & is_read);

@@ -18,7 +18,7 @@ type Range = (usize, usize, usize);
 
 /// Templates, an input, its matches, ranges that are none, and the first template that describes all of the input.
 #[derive(Clone, Copy)]
-struct Row {
+struct Case {
     templates: Templates<'static>,
     input: &'static [u8],
     matches: &'static [Range],
@@ -26,57 +26,57 @@ struct Row {
     whole: Option<usize>,
 }
 
-const ROWS: &[Row] = &[
-    Row {
+const CASES: &[Case] = &[
+    Case {
         templates: OPTIONAL,
         input: b"a d",
         matches: &[(0, 1, 0)],
         others: &[],
         whole: Some(0),
     },
-    Row {
+    Case {
         templates: OPTIONAL,
         input: b"a b d",
         matches: &[(0, 2, 0)],
         others: &[],
         whole: Some(0),
     },
-    Row {
+    Case {
         templates: OPTIONAL,
         input: b"a b c d",
         matches: &[(0, 3, 0)],
         others: &[],
         whole: Some(0),
     },
-    Row {
+    Case {
         templates: OPTIONAL,
         input: b"a c d",
         matches: &[],
         others: &[(0, 2, 0)],
         whole: None,
     },
-    Row {
+    Case {
         templates: ONE,
         input: b"Foo   bar foo bar",
         matches: &[(0, 1, 0), (2, 3, 0)],
         others: &[(0, 3, 0), (1, 0, 0), (9, 9, 0)],
         whole: None,
     },
-    Row {
+    Case {
         templates: TWO,
         input: b"foo bar",
         matches: &[(0, 1, 0), (0, 1, 1)],
         others: &[(0, 0, 0), (0, 1, 2)],
         whole: Some(0),
     },
-    Row {
+    Case {
         templates: OF,
         input: b"x of y of z",
         matches: &[(0, 2, 0), (0, 3, 0), (0, 4, 0), (1, 4, 0), (2, 4, 0)],
         others: &[(1, 3, 0)],
         whole: Some(0),
     },
-    Row {
+    Case {
         templates: CHOICE,
         input: b"bxx end yz end bxxxx end",
         matches: &[(0, 1, 0), (1, 1, 0), (2, 3, 0), (3, 3, 0), (5, 5, 0)],
@@ -191,18 +191,18 @@ fn read_back(alloc: Global, set: &Set, text: &Text) -> Result<bool, Refused> {
     Ok(machine.live())
 }
 
-/// Makes all calls of a row: whether each answers rightly.
-fn answers(alloc: Global, set: &Set, text: &Text, row: &Row) -> Result<bool, Refused> {
-    let begins = row.matches.first().is_some_and(|range| range.0 == 0);
+/// Makes all calls of a case: whether each answers rightly.
+fn answers(alloc: Global, set: &Set, text: &Text, case: &Case) -> Result<bool, Refused> {
+    let begins = case.matches.first().is_some_and(|range| range.0 == 0);
     Ok(
         keeps_all(alloc, set, text)?
-            && finds(alloc, set, text, row.matches)?
-            && finds_of_first(alloc, set, text, row.matches)?
-            && gives(alloc, set, text, row.matches)?
-            && gives_tight(alloc, set, text, row.matches)?
-            && are_matches(alloc, set, text, row.matches, true)?
-            && are_matches(alloc, set, text, row.others, false)?
-            && read_on(alloc, set, text)? == row.whole
+            && finds(alloc, set, text, case.matches)?
+            && finds_of_first(alloc, set, text, case.matches)?
+            && gives(alloc, set, text, case.matches)?
+            && gives_tight(alloc, set, text, case.matches)?
+            && are_matches(alloc, set, text, case.matches, true)?
+            && are_matches(alloc, set, text, case.others, false)?
+            && read_on(alloc, set, text)? == case.whole
             && read_back(alloc, set, text)? == begins,
     )
 }
@@ -211,20 +211,20 @@ fn answers(alloc: Global, set: &Set, text: &Text, row: &Row) -> Result<bool, Ref
 fn matches_are_found_when_there_is_memory(rt: HostRuntime) {
     let words = Words::none(rt.alloc());
     let rules = Rules::profile(rt.alloc());
-    for row in ROWS {
+    for case in CASES {
         let mut lent = None;
         retried(&rt, || {
             lend(
                 rt.alloc(),
-                row.templates,
-                row.input,
+                case.templates,
+                case.input,
                 &words,
                 &rules,
                 &mut lent,
             )
         });
         let (set, text) = lent.expect(&rt, "a set and a text");
-        assert!(rt; retried(&rt, || answers(rt.alloc(), &set, &text, row)));
+        assert!(rt; retried(&rt, || answers(rt.alloc(), &set, &text, case)));
     }
 }
 

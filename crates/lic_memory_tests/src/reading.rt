@@ -3,7 +3,8 @@
 use crate::refused::{Refused, retried};
 use lic_ere::Ere;
 use lic_kind::{Rules, spell};
-use lic_norm::{Feeder, Next, PieceBuffers, Text, TextFault, Words, piece};
+use lic_norm::{Feeder, Text, TextFault, Words};
+use lic_pieces::{Next, PieceBuffers, piece};
 use std::alloc::Global;
 
 /// Whether a pattern is read as two alternatives.

@@ -35,7 +35,7 @@ impl From<AllocError> for Refused {
 }
 
 impl Refused {
-    /// Whether memory ran out, reported at the place where that is reported.
+    /// Whether memory ran out, reported where that is reported.
     fn is_memory(&self) -> bool {
         match self {
             Refused::Words(WordsFault { line, cause }) => {
@@ -44,11 +44,11 @@ impl Refused {
             Refused::Rules(RulesFault { line, cause }) => {
                 *line == 0 && matches!(cause, RulesCause::OutOfMemory)
             }
-            Refused::Pattern(EreFault { place, cause }) => {
-                *place == 0 && matches!(cause, EreCause::OutOfMemory)
+            Refused::Pattern(EreFault { offset, cause }) => {
+                *offset == 0 && matches!(cause, EreCause::OutOfMemory)
             }
-            Refused::Template(MarkupFault { place, cause }) => {
-                *place == 0 && matches!(cause, MarkupCause::OutOfMemory)
+            Refused::Template(MarkupFault { offset, cause }) => {
+                *offset == 0 && matches!(cause, MarkupCause::OutOfMemory)
             }
             Refused::Set(fault) => matches!(fault, BuildFault::Memory),
             Refused::Text(fault) => matches!(fault, TextFault::Memory),

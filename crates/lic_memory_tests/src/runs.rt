@@ -37,7 +37,7 @@ const OUTER: Ask = Ask {
 
 /// Templates and what `check` says of them, an input, what is asked of it, and the report.
 #[derive(Clone, Copy)]
-struct Row {
+struct Case {
     templates: Templates<'static>,
     said: &'static [u8],
     input: &'static [u8],
@@ -45,50 +45,50 @@ struct Row {
     report: &'static [u8],
 }
 
-const ROWS: &[Row] = &[
-    Row {
+const CASES: &[Case] = &[
+    Case {
         templates: OPTIONAL,
         said: b"O\t7\tyes\n",
         input: b"a b d",
         ask: ALL,
         report: b"-\tO\t0\t2\t0\t5\n",
     },
-    Row {
+    Case {
         templates: OPTIONAL,
         said: b"O\t7\tyes\n",
         input: b"a c d",
         ask: ALL,
         report: b"",
     },
-    Row {
+    Case {
         templates: TWO,
         said: b"A\t7\tyes\nB\t5\tyes\n",
         input: b"foo bar",
         ask: ALL,
         report: b"-\tA\t0\t1\t0\t7\n-\tB\t0\t1\t0\t7\n",
     },
-    Row {
+    Case {
         templates: TWO,
         said: b"A\t7\tyes\nB\t5\tyes\n",
         input: b"foo bar",
         ask: LATER,
         report: b"-\tB\t0\t1\t0\t7\n",
     },
-    Row {
+    Case {
         templates: TWO,
         said: b"A\t7\tyes\nB\t5\tyes\n",
         input: b"foo bar",
         ask: OUTER,
         report: b"-\tA\t0\t1\t0\t7\n-\tB\t0\t1\t0\t7\n\tw\t4\t7\tbar\n",
     },
-    Row {
+    Case {
         templates: OF,
         said: b"V\t6\tyes\n",
         input: b"x of y of z",
         ask: ALL,
         report: b"-\tV\t0\t2\t0\t6\n-\tV\t0\t3\t0\t9\n-\tV\t0\t4\t0\t11\n-\tV\t1\t4\t2\t11\n-\tV\t2\t4\t5\t11\n",
     },
-    Row {
+    Case {
         templates: OF,
         said: b"V\t6\tyes\n",
         input: b"x of y of z",
@@ -96,7 +96,7 @@ const ROWS: &[Row] = &[
         report: b"-\tV\t0\t2\t0\t6\n\ta\t0\t1\tx\n\tb\t5\t6\ty\n-\tV\t2\t4\t5\t11\n\ta\t5\t6\ty\n\tb\t10\t11\tz\n",
     },
     // The last one does not describe its original text.
-    Row {
+    Case {
         templates: CHECKED,
         said: b"A\t7\tyes\nC\t9\tyes\nZ\t5\tno\n",
         input: b"12 end",
@@ -118,36 +118,36 @@ fn says(
     Ok(out.is_whole() && all == !said.ends_with(b"\tno\n"))
 }
 
-/// Whether the report of an input is all of the row's.
+/// Whether the report of an input is all of the case's.
 fn reports(
     alloc: Global,
     set: &Set,
     words: &Words,
     rules: &Rules,
-    row: &Row,
+    case: &Case,
 ) -> Result<bool, Refused> {
-    let mut input = Pieces::of(row.input);
-    let mut out = Awaited::of(row.report);
+    let mut input = Pieces::of(case.input);
+    let mut out = Awaited::of(case.report);
     let some = run(
-        alloc, "-", &mut input, &mut out, set, words, rules, &row.ask,
+        alloc, "-", &mut input, &mut out, set, words, rules, &case.ask,
     )
     .map_err(Refused::Run)?;
-    Ok(out.is_whole() && some == !row.report.is_empty())
+    Ok(out.is_whole() && some == !case.report.is_empty())
 }
 
 #[test]
 fn reports_are_written_when_there_is_memory(rt: HostRuntime) {
     let words = Words::none(rt.alloc());
     let rules = Rules::profile(rt.alloc());
-    for row in ROWS {
+    for case in CASES {
         let mut made = None;
         retried(&rt, || {
-            made = Some(set_of(rt.alloc(), row.templates, &words, &rules)?);
+            made = Some(set_of(rt.alloc(), case.templates, &words, &rules)?);
             Ok(())
         });
         let set = made.expect(&rt, "a set");
-        assert!(rt; retried(&rt, || says(rt.alloc(), &set, &words, &rules, row.said)));
-        assert!(rt; retried(&rt, || reports(rt.alloc(), &set, &words, &rules, row)));
+        assert!(rt; retried(&rt, || says(rt.alloc(), &set, &words, &rules, case.said)));
+        assert!(rt; retried(&rt, || reports(rt.alloc(), &set, &words, &rules, case)));
     }
 }
 
@@ -191,22 +191,22 @@ const LISTED: &[Listed] = &[
     },
 ];
 
-/// Whether an input has as many tokens as the row says, and the lines that are written of them are just the row's.
-fn lists(alloc: Global, words: &Words, rules: &Rules, row: &Listed) -> Result<bool, Refused> {
-    let count = count_tokens(alloc, row.input, words, rules)?;
-    let mut input = Pieces::of(row.input);
-    let mut out = Awaited::of(row.lines);
+/// Whether an input has as many tokens as the case says, and the lines that are written of them are just the case's.
+fn lists(alloc: Global, words: &Words, rules: &Rules, case: &Listed) -> Result<bool, Refused> {
+    let count = count_tokens(alloc, case.input, words, rules)?;
+    let mut input = Pieces::of(case.input);
+    let mut out = Awaited::of(case.lines);
     let some = run_tokens(alloc, "-", &mut input, &mut out, words, rules).map_err(Refused::Run)?;
-    Ok(count == row.count && out.is_whole() && some == !row.lines.is_empty())
+    Ok(count == case.count && out.is_whole() && some == !case.lines.is_empty())
 }
 
 #[test]
 fn tokens_are_written_when_there_is_memory(rt: HostRuntime) {
     let rules = Rules::profile(rt.alloc());
-    for row in LISTED {
+    for case in LISTED {
         let words = retried(&rt, || {
-            Words::read(rt.alloc(), row.list).map_err(Refused::Words)
+            Words::read(rt.alloc(), case.list).map_err(Refused::Words)
         });
-        assert!(rt; retried(&rt, || lists(rt.alloc(), &words, &rules, row)));
+        assert!(rt; retried(&rt, || lists(rt.alloc(), &words, &rules, case)));
     }
 }

@@ -16,7 +16,7 @@ use Rattle.lic_trim.specs.declared.line_part.LinePart.{LinePart}
 use Rattle.lic_kind.specs.LineRules.{LineRules}
 use Rattle.lic_trim.specs.Lines.{whole_line, cut_of}
 use Rattle.lic_lines.specs.Cells.{blank_for, cell_of, line_cells, cells_of}
-use Rattle.lic_lines.specs.Runs.{same_mark, same_family, end_after, without_separator, without_separators, joined, runs_joined}
+use Rattle.lic_lines.specs.Streaks.{same_mark, same_family, end_after, without_separator, without_separators, joined, streaks_joined}
 use Rattle.lic_norm.specs.Sources.{AreSourceChars, source_of}
 use Rattle.lic_norm.specs.Spans.{EndsAt}
 use Rattle.lic_norm.proofs.AnyBytes.{source_of-AreSourceChars}
@@ -172,28 +172,28 @@ module _ (source : List ℕ) where
       lines-Lie (line_cells rules whole_line) (line-Lie rules whole_line) from (lines_of kept) to
       (subst (λ x. CharsLie source from x to) (sym (parts_of_cut _ kept)) lies)
 
-  -- ---- runs
+  -- ---- streaks
 
-  runs-Lie : (f : List Cell → List Cell) → ((from : ℕ) (run : List Cell) (to : ℕ) → CellsLie source from run to → CellsLie source from (f run) to)
-      → (from : ℕ) (runs : List (List Cell)) (to : ℕ) → CellsLie source from (flat_map (λ run. run) runs) to → CellsLie source from (flat_map f runs) to
-  runs-Lie f each from [] to l = l
-  runs-Lie f each from (run ∷ runs) to l =
-      let two = Lie-split source (λ (r : SourceChar). r.start) (λ r. r.end) from (solid run) (solid (flat_map (λ run. run) runs)) to
-      (subst (λ x. CharsLie source from x to) (solid-append run (flat_map (λ run. run) runs)) l) in
-      subst (λ x. CharsLie source from x to) (sym (solid-append (f run) (flat_map f runs)))
-      (Lie-append source (λ (r : SourceChar). r.start) (λ r. r.end) from (solid (f run)) two.0
-      (solid (flat_map f runs)) to (each from run two.0 two.1) (runs-Lie f each two.0 runs to two.2))
+  streaks-Lie : (f : List Cell → List Cell) → ((from : ℕ) (streak : List Cell) (to : ℕ) → CellsLie source from streak to → CellsLie source from (f streak) to)
+      → (from : ℕ) (streaks : List (List Cell)) (to : ℕ) → CellsLie source from (flat_map (λ streak. streak) streaks) to → CellsLie source from (flat_map f streaks) to
+  streaks-Lie f each from [] to l = l
+  streaks-Lie f each from (streak ∷ streaks) to l =
+      let two = Lie-split source (λ (r : SourceChar). r.start) (λ r. r.end) from (solid streak) (solid (flat_map (λ streak. streak) streaks)) to
+      (subst (λ x. CharsLie source from x to) (solid-append streak (flat_map (λ streak. streak) streaks)) l) in
+      subst (λ x. CharsLie source from x to) (sym (solid-append (f streak) (flat_map f streaks)))
+      (Lie-append source (λ (r : SourceChar). r.start) (λ r. r.end) from (solid (f streak)) two.0
+      (solid (flat_map f streaks)) to (each from streak two.0 two.1) (streaks-Lie f each two.0 streaks to two.2))
 
-  separator-Lie : (from : ℕ) (run : List Cell) (to : ℕ) → CellsLie source from run to → CellsLie source from (without_separator run) to
+  separator-Lie : (from : ℕ) (streak : List Cell) (to : ℕ) → CellsLie source from streak to → CellsLie source from (without_separator streak) to
   separator-Lie from [] to l = l
-  separator-Lie from (Blank ∷ run) to l = l
-  separator-Lie from (Word s ∷ run) to l = l
-  separator-Lie from (Mark s ∷ run) to l =
+  separator-Lie from (Blank ∷ streak) to l = l
+  separator-Lie from (Word s ∷ streak) to l = l
+  separator-Lie from (Mark s ∷ streak) to l =
       let P : List Cell → Type 0 = λ cells. CellsLie source from cells to in
-      elim (cases_Bool (nat_le 2 (length run))) [
-        | inl many ↦ subst P (sym (cond-true (nat_le 2 (length run)) (Blank ∷ []) (Mark s ∷ run) many))
-            (Lie-order source (λ (r : SourceChar). r.start) (λ r. r.end) from (s ∷ solid run) to l)
-        | inr few ↦ subst P (sym (cond-false (nat_le 2 (length run)) (Blank ∷ []) (Mark s ∷ run) few)) l
+      elim (cases_Bool (nat_le 2 (length streak))) [
+        | inl many ↦ subst P (sym (cond-true (nat_le 2 (length streak)) (Blank ∷ []) (Mark s ∷ streak) many))
+            (Lie-order source (λ (r : SourceChar). r.start) (λ r. r.end) from (s ∷ solid streak) to l)
+        | inr few ↦ subst P (sym (cond-false (nat_le 2 (length streak)) (Blank ∷ []) (Mark s ∷ streak) few)) l
       ]
 
   -- where the last of these ends lies between, and a source character ends there
@@ -204,25 +204,25 @@ module _ (source : List ℕ) where
   end_after-lies at (Mark s ∷ cells) to here l = let rest = end_after-lies s.end cells to l.3 l.4 in (omega (arith, l.0, l.1, rest.0), rest.1, rest.2)
   end_after-lies at (Word s ∷ cells) to here l = let rest = end_after-lies s.end cells to l.3 l.4 in (omega (arith, l.0, l.1, rest.0), rest.1, rest.2)
 
-  joined-Lie : (from : ℕ) (run : List Cell) (to : ℕ) → CellsLie source from run to → CellsLie source from (joined run) to
+  joined-Lie : (from : ℕ) (streak : List Cell) (to : ℕ) → CellsLie source from streak to → CellsLie source from (joined streak) to
   joined-Lie from [] to l = l
-  joined-Lie from (Blank ∷ run) to l = l
-  joined-Lie from (Word s ∷ run) to l = l
-  joined-Lie from (Mark s ∷ run) to l = let last = end_after-lies s.end run to l.3 l.4 in (l.0, omega (arith, l.1, last.0), l.2, last.2, last.1)
+  joined-Lie from (Blank ∷ streak) to l = l
+  joined-Lie from (Word s ∷ streak) to l = l
+  joined-Lie from (Mark s ∷ streak) to l = let last = end_after-lies s.end streak to l.3 l.4 in (l.0, omega (arith, l.1, last.0), l.2, last.2, last.1)
 
-  pub runs_joined-Lie : (rules : LineRules) (from : ℕ) (cells : List Cell) (to : ℕ) → CellsLie source from cells to
-      → CellsLie source from (runs_joined rules cells) to
-  runs_joined-Lie rules from cells to l =
+  pub streaks_joined-Lie : (rules : LineRules) (from : ℕ) (cells : List Cell) (to : ℕ) → CellsLie source from cells to
+      → CellsLie source from (streaks_joined rules cells) to
+  streaks_joined-Lie rules from cells to l =
       let P : List Cell → Type 0 = λ cells. CellsLie source from cells to in
       let parted : P (without_separators cells) =
-      runs-Lie without_separator separator-Lie from (groups same_mark cells) to
+      streaks-Lie without_separator separator-Lie from (groups same_mark cells) to
       (subst P (sym (parts_of_groups same_mark cells)) l) in
       let first : P (if rules.separators then without_separators cells else cells) =
       elim (cases_Bool rules.separators) [
         | inl on ↦ subst P (sym (cond-true rules.separators (without_separators cells) cells on)) parted
         | inr off ↦ subst P (sym (cond-false rules.separators (without_separators cells) cells off)) l
       ] in
-      runs-Lie joined joined-Lie from
+      streaks-Lie joined joined-Lie from
       (groups same_family (if rules.separators then without_separators cells else cells)) to
       (subst P (sym (parts_of_groups same_family
       (if rules.separators then without_separators cells else cells))) first)

@@ -13,7 +13,7 @@ use Rattle.lic_kind.specs.LineRules.{LineRules}
 use Rattle.lic_trim.specs.Lines.{whole_line, tail_length}
 use Rattle.lic_lines.specs.Cells.{line_cells, cells_of_cut}
 use Rattle.lic_lines.specs.Tokens.{first_tokens, single_signs, line_tokens, text_tokens, tokens_of_cells}
-use Rattle.lic_lines.proofs.Gaps.{no_runs}
+use Rattle.lic_lines.proofs.Gaps.{no_streaks}
 use Rattle.lic_trim.proofs.ItemLemmas.{item_none, few_behind}
 use Rattle.lic_lines.proofs.LineByLine.{text_tokens-lines}
 use Rattle.lic_norm.specs.LineEnds.{IsFirstLine}
@@ -175,7 +175,7 @@ no_cells_whole rules = ap (λ n.
 
 -- and no cells no tokens
 pub no_tokens : (rules : LineRules) → tokens_of_cells rules [] ≡ []
-no_tokens rules = ap (λ cells. single_signs (first_tokens cells)) (no_runs rules)
+no_tokens rules = ap (λ cells. single_signs (first_tokens cells)) (no_streaks rules)
 
 line_or_none : (rules : LineRules) (line : List SourceChar) → flat_map (line_tokens rules whole_line) (as_line line) ≡ line_tokens rules whole_line line
 line_or_none rules [] = sym (ap (tokens_of_cells rules) (no_cells_whole rules) ∙ no_tokens rules)

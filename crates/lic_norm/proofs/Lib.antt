@@ -18,11 +18,5 @@ pub mod AsciiLines
 pub mod StretchTokens
 pub mod TakenSteps
 pub mod TextLemmas
-pub mod BareTokens
-pub mod PieceLines
-pub mod EndedLines
-pub mod LineBegins
-pub mod EdgeLemmas
 pub mod SpellingPlaces
 pub mod PartedLemmas
-mod examples

@@ -7,17 +7,17 @@ use Rattle.std.proofs.lemmas.List.Elements.{All-nil, All-cons}
 use Rattle.lic_trim.specs.Texts.{groups}
 use Rattle.lic_kind.specs.LineRules.{LineRules}
 use Rattle.lic_lines.specs.Cells.{cells_of}
-use Rattle.lic_lines.specs.Runs.{runs_joined, end_after}
+use Rattle.lic_lines.specs.Streaks.{streaks_joined, end_after}
 use Rattle.lic_lines.specs.Tokens.{Token, both_words, tokens_from, first_tokens, is_text, is_sign_in_parentheses, sign_from, as_sign, single_signs, text_tokens}
 use Rattle.lic_trim.specs.declared.source.SourceChar.{SourceChar}
 use Rattle.lic_lines.specs.declared.cell.Cell.{Cell}
 use Rattle.lic_lines.specs.declared.cell.Cell.TheVariants.{Blank, Mark, Word}
-use Rattle.lic_phrases.specs.Rewriting.{Phrase, end_of_last, both_signs, sign_of_row, sign_rows, begins_authority, https_as_http, longest_phrase, count_after, first_as, phrases_after, phrases_joined, spanned}
+use Rattle.lic_phrases.specs.Rewriting.{Phrase, end_of_last, both_signs, sign_of_sequence, sign_sequences, begins_authority, https_as_http, longest_phrase, count_after, first_as, phrases_after, phrases_joined, spanned}
 use Rattle.lic_norm.specs.Tokens.{TokenValue, reported, first_tokens_of, tokens_of}
 use Rattle.lic_norm.specs.Sources.{source_of}
 use Rattle.lic_norm.specs.Spans.{AreRising, EndsAt, IsOnBoundaries, AreSpans}
 use Rattle.lic_norm.proofs.Lying.{Lie, Lie-order, Lie-wider, Lie-split, Lie-take}
-use Rattle.lic_norm.proofs.CellSpans.{CharsLie, CellsLie, solid, solid-append, parts_of_groups, source-Lie, cells_of-Lie, runs_joined-Lie, end_after-lies}
+use Rattle.lic_norm.proofs.CellSpans.{CharsLie, CellsLie, solid, solid-append, parts_of_groups, source-Lie, cells_of-Lie, streaks_joined-Lie, end_after-lies}
 
 -- tokens lie from one byte up to another
 abbrev pub TokensLie : List ℕ → ℕ → List Token → ℕ → Type 0
@@ -32,19 +32,19 @@ module _ (source : List ℕ) where
 
   -- ---- first tokens
 
-  tokens_from-Lie : (after_blank : Bool) (from : ℕ) (runs : List (List Cell)) (to : ℕ)
-      → CellsLie source from (flat_map (λ run. run) runs) to → TokensLie source from (tokens_from after_blank runs) to
+  tokens_from-Lie : (after_blank : Bool) (from : ℕ) (streaks : List (List Cell)) (to : ℕ)
+      → CellsLie source from (flat_map (λ streak. streak) streaks) to → TokensLie source from (tokens_from after_blank streaks) to
   tokens_from-Lie after_blank from [] to l = l
-  tokens_from-Lie after_blank from ([] ∷ runs) to l = tokens_from-Lie after_blank from runs to l
-  tokens_from-Lie after_blank from ((Blank ∷ cells) ∷ runs) to l =
-      let rest = flat_map (λ (run : List Cell). run) runs in
+  tokens_from-Lie after_blank from ([] ∷ streaks) to l = tokens_from-Lie after_blank from streaks to l
+  tokens_from-Lie after_blank from ((Blank ∷ cells) ∷ streaks) to l =
+      let rest = flat_map (λ (streak : List Cell). streak) streaks in
       let two = Lie-split source (λ (r : SourceChar). r.start) (λ r. r.end) from (solid cells) (solid rest) to
       (subst (λ x. CharsLie source from x to) (solid-append cells rest) l) in
-      wider from two.0 (tokens_from true runs) to
+      wider from two.0 (tokens_from true streaks) to
       (Lie-order source (λ (r : SourceChar). r.start) (λ r. r.end) from (solid cells) two.0 two.1)
-      (tokens_from-Lie true two.0 runs to two.2)
-  tokens_from-Lie after_blank from ((Mark s ∷ cells) ∷ runs) to l =
-      let rest = flat_map (λ (run : List Cell). run) runs in
+      (tokens_from-Lie true two.0 streaks to two.2)
+  tokens_from-Lie after_blank from ((Mark s ∷ cells) ∷ streaks) to l =
+      let rest = flat_map (λ (streak : List Cell). streak) streaks in
       let two = Lie-split source (λ (r : SourceChar). r.start) (λ r. r.end) s.end (solid cells) (solid rest) to
       (subst (λ x. CharsLie source s.end x to) (solid-append cells rest) l.4) in
       let last = end_after-lies source s.end cells two.0 l.3 two.1 in (
@@ -52,11 +52,11 @@ module _ (source : List ℕ) where
         omega (arith, l.1, last.0),
         l.2,
         last.2,
-        wider (end_after s.end cells) two.0 (tokens_from false runs) to last.1
-            (tokens_from-Lie false two.0 runs to two.2),
+        wider (end_after s.end cells) two.0 (tokens_from false streaks) to last.1
+            (tokens_from-Lie false two.0 streaks to two.2),
       )
-  tokens_from-Lie after_blank from ((Word s ∷ cells) ∷ runs) to l =
-      let rest = flat_map (λ (run : List Cell). run) runs in
+  tokens_from-Lie after_blank from ((Word s ∷ cells) ∷ streaks) to l =
+      let rest = flat_map (λ (streak : List Cell). streak) streaks in
       let two = Lie-split source (λ (r : SourceChar). r.start) (λ r. r.end) s.end (solid cells) (solid rest) to
       (subst (λ x. CharsLie source s.end x to) (solid-append cells rest) l.4) in
       let last = end_after-lies source s.end cells two.0 l.3 two.1 in (
@@ -64,8 +64,8 @@ module _ (source : List ℕ) where
         omega (arith, l.1, last.0),
         l.2,
         last.2,
-        wider (end_after s.end cells) two.0 (tokens_from false runs) to last.1
-            (tokens_from-Lie false two.0 runs to two.2),
+        wider (end_after s.end cells) two.0 (tokens_from false streaks) to last.1
+            (tokens_from-Lie false two.0 streaks to two.2),
       )
 
   -- ---- signs
@@ -103,14 +103,14 @@ module _ (source : List ℕ) where
   last-lies t [] to here l = (omega arith, l, here)
   last-lies t (u ∷ ts) to here l = let rest = last-lies u ts to l.3 l.4 in (omega (arith, l.0, l.1, rest.0), rest.1, rest.2)
 
-  rows-Lie : (from : ℕ) (rows : List (List Token)) (to : ℕ) → TokensLie source from (flat_map (λ row. row) rows) to
-      → TokensLie source from (flat_map sign_of_row rows) to
-  rows-Lie from [] to l = l
-  rows-Lie from ([] ∷ rows) to l = rows-Lie from rows to l
-  rows-Lie from ((t ∷ ts) ∷ rows) to l =
-      let two = Lie-split source (λ (r : Token). r.start) (λ r. r.end) t.end ts (flat_map (λ row. row) rows) to l.4 in
+  sequences-Lie : (from : ℕ) (sequences : List (List Token)) (to : ℕ) → TokensLie source from (flat_map (λ sequence. sequence) sequences) to
+      → TokensLie source from (flat_map sign_of_sequence sequences) to
+  sequences-Lie from [] to l = l
+  sequences-Lie from ([] ∷ sequences) to l = sequences-Lie from sequences to l
+  sequences-Lie from ((t ∷ ts) ∷ sequences) to l =
+      let two = Lie-split source (λ (r : Token). r.start) (λ r. r.end) t.end ts (flat_map (λ sequence. sequence) sequences) to l.4 in
       let last = last-lies t ts two.0 l.3 two.1 in
-      (l.0, omega (arith, l.1, last.0), l.2, last.2, wider (end_of_last t ts) two.0 (flat_map sign_of_row rows) to last.1 (rows-Lie two.0 rows to two.2))
+      (l.0, omega (arith, l.1, last.0), l.2, last.2, wider (end_of_last t ts) two.0 (flat_map sign_of_sequence sequences) to last.1 (sequences-Lie two.0 sequences to two.2))
 
   -- ---- web addresses
 
@@ -150,12 +150,12 @@ module _ (source : List ℕ) where
           (l.0, omega (arith, l.1, last.0), l.2, last.2, more n (end_of_last t (take n ts)) (behind-Lie n t ts to l.4))
 
   rewritten-Lie : (words : List Phrase) (from : ℕ) (ts : List Token) (to : ℕ) → TokensLie source from ts to
-      → TokensLie source from (phrases_joined words (https_as_http (sign_rows ts))) to
+      → TokensLie source from (phrases_joined words (https_as_http (sign_sequences ts))) to
   rewritten-Lie words from ts to l =
-      let rows : TokensLie source from (sign_rows ts) to =
-      rows-Lie from (groups both_signs ts) to
+      let sequences : TokensLie source from (sign_sequences ts) to =
+      sequences-Lie from (groups both_signs ts) to
       (subst (λ us. TokensLie source from us to) (sym (parts_of_groups both_signs ts)) l) in
-      phrases-Lie words 0 from (https_as_http (sign_rows ts)) to (https-Lie from (sign_rows ts) to rows)
+      phrases-Lie words 0 from (https_as_http (sign_sequences ts)) to (https-Lie from (sign_sequences ts) to sequences)
 
   -- ---- as they are reported
 
@@ -178,9 +178,9 @@ module _ (source : List ℕ) where
   text_tokens-Lie : (rules : LineRules) → TokensLie source 0 (text_tokens rules (source_of 0 source)) (length source)
   text_tokens-Lie rules =
       let to = length source in
-      let cells = runs_joined rules (cells_of rules (source_of 0 source)) in
+      let cells = streaks_joined rules (cells_of rules (source_of 0 source)) in
       let lies : CellsLie source 0 cells to =
-      runs_joined-Lie source rules 0 (cells_of rules (source_of 0 source)) to
+      streaks_joined-Lie source rules 0 (cells_of rules (source_of 0 source)) to
       (cells_of-Lie source rules 0 (source_of 0 source) to (source-Lie source)) in
       single_signs-Lie 0 (first_tokens cells) to
       (tokens_from-Lie true 0 (groups both_words cells) to (subst (λ x. CellsLie source 0 x to) (sym (parts_of_groups both_words cells)) lies))
@@ -191,7 +191,7 @@ unfolding first_tokens_of
 tokens_of-AreSpans rules words input =
     let to = length input in
     let lies = rewritten-Lie input words 0 (text_tokens rules (source_of 0 input)) to (text_tokens-Lie input rules) in
-    let joined = phrases_joined words (https_as_http (sign_rows (text_tokens rules (source_of 0 input)))) in
+    let joined = phrases_joined words (https_as_http (sign_sequences (text_tokens rules (source_of 0 input)))) in
     record {
       rising = reported-rising input 0 joined to lies;
       within =

@@ -4,7 +4,6 @@ use Rattle.std.specs.Prelude.{Option, Some, None, codes, encode_utf8_all, nat_le
 use Rattle.std.specs.List.{flat_map, list_all}
 use Rattle.std.specs.Char.{is_whitespace}
 use Rattle.std.specs.Str.{NoCharPasses, NonePass}
-use Rattle.std.specs.Str.{chars}
 use Rattle.std.proofs.Math.Seq.{drop-append_seam, get_or-append_seam, take-append_seam}
 use Rattle.std.proofs.lemmas.Bool.{cases_Bool, cond-true, cond-false, and_parts, true≢false, false_from_ne_true}
 use Rattle.std.proofs.lemmas.List.Elements.{All-nil, All-cons, All-drop, All-head, All-map, All-tail, All-take, All-weaker}
@@ -16,7 +15,7 @@ use Rattle.lic_kind.specs.declared.Kind.TheVariants.{Blank as BlankKind, Dropped
 use Rattle.lic_kind.proofs.KindLemmas.{is_word_kind-true, kind_of-white}
 use Rattle.lic_kind.proofs.LetterLemmas.{spell-Mark, mark_letters, word_letters_are_not_white, word_has_letters}
 use Rattle.lic_trim.specs.Texts.{groups}
-use Rattle.lic_trim.specs.Sources.{chars_of, without_dropped, lines_of, unplaced}
+use Rattle.lic_trim.specs.Sources.{chars_of, without_dropped, lines_of}
 use Rattle.lic_trim.specs.declared.source.SourceChar.{SourceChar}
 use Rattle.lic_lines.specs.declared.cell.Cell.{Cell}
 use Rattle.lic_lines.specs.declared.cell.Cell.TheVariants.{Blank, Mark, Word}
@@ -24,16 +23,14 @@ use Rattle.lic_trim.specs.declared.line_part.LinePart.{LinePart}
 use Rattle.lic_kind.specs.LineRules.{LineRules}
 use Rattle.lic_trim.specs.Lines.{whole_line, cut_of}
 use Rattle.lic_lines.specs.Cells.{blank_for, cell_of, cells_of, line_cells}
-use Rattle.lic_lines.specs.Runs.{same_mark, same_family, without_separator, without_separators, joined, runs_joined}
+use Rattle.lic_lines.specs.Streaks.{same_mark, same_family, without_separator, without_separators, joined, streaks_joined}
 use Rattle.lic_lines.specs.Tokens.{Token, both_words, letters_of, tokens_from, first_tokens, is_text, is_sign_in_parentheses, sign_from, as_sign, single_signs, text_tokens_after}
-use Rattle.lic_phrases.specs.Rewriting.{Phrase, both_signs, sign_of_row, sign_rows, begins_authority, https_as_http, begin_with_texts, longer, longest_phrase, count_after, first_as, phrases_after, phrases_joined, spanned, rewritten, SpannedText}
+use Rattle.lic_phrases.specs.Rewriting.{Phrase, both_signs, sign_of_sequence, sign_sequences, begins_authority, https_as_http, begin_with_texts, longer, longest_phrase, count_after, first_as, phrases_after, phrases_joined, spanned, rewritten, SpannedText}
 use Rattle.lic_phrases.specs.Settling.{Kept, Settles, left_of}
 use Rattle.lic_phrases.specs.TokenTexts.{IsTokenText, HaveTokenTexts}
 use Rattle.lic_norm.specs.Sources.{source_of}
 use Rattle.lic_norm.specs.Tokens.{TokenValue, reported, first_tokens_of, tokens_of}
-use Rattle.lic_norm.specs.Pieces.{cells_of_lines, part_of, piece_cells, piece_tokens}
 use Rattle.lic_norm.specs.Spans.{AreTokenTexts, HaveTexts}
-use Rattle.lic_norm.specs.declared.pieces.Next.{Next}
 use Rattle.lic_norm.proofs.CellSpans.{parts_of_groups}
 use Rattle.lic_norm.proofs.SpellingPlaces.{texts_of-reported}
 
@@ -73,13 +70,13 @@ letters_text letters some none =
 -- ---- cells
 
 -- a mark is of kind Mark, and a word character of kind Word
-abbrev KindsFit : List Cell → Type 0
+abbrev pub KindsFit : List Cell → Type 0
 KindsFit [] = Unit {0}
 KindsFit (Blank ∷ cells) = KindsFit cells
 KindsFit (Mark s ∷ cells) = (kind_of s.char ≡ MarkKind) × KindsFit cells
 KindsFit (Word s ∷ cells) = (kind_of s.char ≡ WordKind) × KindsFit cells
 
-fit-append : (xs ys : List Cell) → KindsFit xs → KindsFit ys → KindsFit (xs ++ ys)
+pub fit-append : (xs ys : List Cell) → KindsFit xs → KindsFit ys → KindsFit (xs ++ ys)
 fit-append [] ys h g = g
 fit-append (Blank ∷ xs) ys h g = fit-append xs ys h g
 fit-append (Mark s ∷ xs) ys h g = (h.0, fit-append xs ys h.1 g)
@@ -135,40 +132,40 @@ fit-lines rules (line ∷ lines) =
     fit-append (line_cells rules whole_line line) (flat_map (line_cells rules whole_line) lines)
     (fit-line rules whole_line line) (fit-lines rules lines)
 
-fit-runs : (f : List Cell → List Cell) → ((run : List Cell) → KindsFit run → KindsFit (f run))
-    → (runs : List (List Cell)) → KindsFit (flat_map (λ run. run) runs) → KindsFit (flat_map f runs)
-fit-runs f each [] h = tt
-fit-runs f each (run ∷ runs) h =
-    let two = fit-split run (flat_map (λ run. run) runs) h in
-    fit-append (f run) (flat_map f runs) (each run two.0) (fit-runs f each runs two.1)
+fit-streaks : (f : List Cell → List Cell) → ((streak : List Cell) → KindsFit streak → KindsFit (f streak))
+    → (streaks : List (List Cell)) → KindsFit (flat_map (λ streak. streak) streaks) → KindsFit (flat_map f streaks)
+fit-streaks f each [] h = tt
+fit-streaks f each (streak ∷ streaks) h =
+    let two = fit-split streak (flat_map (λ streak. streak) streaks) h in
+    fit-append (f streak) (flat_map f streaks) (each streak two.0) (fit-streaks f each streaks two.1)
 
-fit-separator : (run : List Cell) → KindsFit run → KindsFit (without_separator run)
+fit-separator : (streak : List Cell) → KindsFit streak → KindsFit (without_separator streak)
 fit-separator [] h = h
-fit-separator (Blank ∷ run) h = h
-fit-separator (Word s ∷ run) h = h
-fit-separator (Mark s ∷ run) h =
-    elim (cases_Bool (nat_le 2 (length run))) [
-      | inl many ↦ subst KindsFit (sym (cond-true (nat_le 2 (length run)) (Blank ∷ []) (Mark s ∷ run) many)) tt
-      | inr few ↦ subst KindsFit (sym (cond-false (nat_le 2 (length run)) (Blank ∷ []) (Mark s ∷ run) few)) h
+fit-separator (Blank ∷ streak) h = h
+fit-separator (Word s ∷ streak) h = h
+fit-separator (Mark s ∷ streak) h =
+    elim (cases_Bool (nat_le 2 (length streak))) [
+      | inl many ↦ subst KindsFit (sym (cond-true (nat_le 2 (length streak)) (Blank ∷ []) (Mark s ∷ streak) many)) tt
+      | inr few ↦ subst KindsFit (sym (cond-false (nat_le 2 (length streak)) (Blank ∷ []) (Mark s ∷ streak) few)) h
     ]
 
-fit-joined : (run : List Cell) → KindsFit run → KindsFit (joined run)
+fit-joined : (streak : List Cell) → KindsFit streak → KindsFit (joined streak)
 fit-joined [] h = h
-fit-joined (Blank ∷ run) h = h
-fit-joined (Word s ∷ run) h = h
-fit-joined (Mark s ∷ run) h = (h.0, tt)
+fit-joined (Blank ∷ streak) h = h
+fit-joined (Word s ∷ streak) h = h
+fit-joined (Mark s ∷ streak) h = (h.0, tt)
 
-fit-runs_joined : (rules : LineRules) (cells : List Cell) → KindsFit cells → KindsFit (runs_joined rules cells)
-fit-runs_joined rules cells h =
+fit-streaks_joined : (rules : LineRules) (cells : List Cell) → KindsFit cells → KindsFit (streaks_joined rules cells)
+fit-streaks_joined rules cells h =
     let parted : KindsFit (without_separators cells) =
-    fit-runs without_separator fit-separator (groups same_mark cells)
+    fit-streaks without_separator fit-separator (groups same_mark cells)
     (subst KindsFit (sym (parts_of_groups same_mark cells)) h) in
     let first : KindsFit (if rules.separators then without_separators cells else cells) =
     elim (cases_Bool rules.separators) [
       | inl on ↦ subst KindsFit (sym (cond-true rules.separators (without_separators cells) cells on)) parted
       | inr off ↦ subst KindsFit (sym (cond-false rules.separators (without_separators cells) cells off)) h
     ] in
-    fit-runs joined fit-joined (groups same_family (if rules.separators then without_separators cells else cells))
+    fit-streaks joined fit-joined (groups same_family (if rules.separators then without_separators cells else cells))
     (subst KindsFit (sym (parts_of_groups same_family
     (if rules.separators then without_separators cells else cells))) first)
 
@@ -214,24 +211,24 @@ first_has t ts h = All-head (λ u. IsTokenText u.text) t ts h
 rest_have : (t : Token) (ts : List Token) → HaveTexts (t ∷ ts) → HaveTexts ts
 rest_have t ts h = All-tail (λ u. IsTokenText u.text) t ts h
 
-tokens_from-texts : (after_blank : Bool) (runs : List (List Cell)) → KindsFit (flat_map (λ run. run) runs) → HaveTexts (tokens_from after_blank runs)
+tokens_from-texts : (after_blank : Bool) (streaks : List (List Cell)) → KindsFit (flat_map (λ streak. streak) streaks) → HaveTexts (tokens_from after_blank streaks)
 tokens_from-texts after_blank [] h = none_have
-tokens_from-texts after_blank ([] ∷ runs) h = tokens_from-texts after_blank runs h
-tokens_from-texts after_blank ((Blank ∷ cells) ∷ runs) h = tokens_from-texts true runs (fit-split cells (flat_map (λ run. run) runs) h).1
-tokens_from-texts after_blank ((Mark s ∷ cells) ∷ runs) h =
-    let two = fit-split (Mark s ∷ cells) (flat_map (λ run. run) runs) h in
+tokens_from-texts after_blank ([] ∷ streaks) h = tokens_from-texts after_blank streaks h
+tokens_from-texts after_blank ((Blank ∷ cells) ∷ streaks) h = tokens_from-texts true streaks (fit-split cells (flat_map (λ streak. streak) streaks) h).1
+tokens_from-texts after_blank ((Mark s ∷ cells) ∷ streaks) h =
+    let two = fit-split (Mark s ∷ cells) (flat_map (λ streak. streak) streaks) h in
     more_have _ _
     (letters_text (letters_of (Mark s ∷ cells))
     (omega (arith, length-append (spell s.char) (letters_of cells), ap length (spell-Mark s.char h.0)))
     (no_space_letters (Mark s ∷ cells) two.0))
-    (tokens_from-texts false runs two.1)
-tokens_from-texts after_blank ((Word s ∷ cells) ∷ runs) h =
-    let two = fit-split (Word s ∷ cells) (flat_map (λ run. run) runs) h in
+    (tokens_from-texts false streaks two.1)
+tokens_from-texts after_blank ((Word s ∷ cells) ∷ streaks) h =
+    let two = fit-split (Word s ∷ cells) (flat_map (λ streak. streak) streaks) h in
     more_have _ _
     (letters_text (letters_of (Word s ∷ cells))
     (omega (arith, length-append (spell s.char) (letters_of cells), word_has_letters s.char h.0))
     (no_space_letters (Word s ∷ cells) two.0))
-    (tokens_from-texts false runs two.1)
+    (tokens_from-texts false streaks two.1)
 
 -- ---- the rewriting
 
@@ -262,12 +259,12 @@ single_signs-texts (a ∷ b ∷ c ∷ ts) h =
           (more_have (as_sign a) (single_signs (b ∷ c ∷ ts)) (as_sign-text a (first_has a (b ∷ c ∷ ts) h)) (single_signs-texts (b ∷ c ∷ ts) more))
     ]
 
-rows-texts : (rows : List (List Token)) → HaveTexts (flat_map (λ row. row) rows) → HaveTexts (flat_map sign_of_row rows)
-rows-texts [] h = h
-rows-texts ([] ∷ rows) h = rows-texts rows h
-rows-texts ((t ∷ ts) ∷ rows) h =
-    let rest = flat_map (λ (row : List Token). row) rows in
-    more_have _ (flat_map sign_of_row rows) (first_has t (ts ++ rest) h) (rows-texts rows (behind ts rest (rest_have t (ts ++ rest) h)))
+sequences-texts : (sequences : List (List Token)) → HaveTexts (flat_map (λ sequence. sequence) sequences) → HaveTexts (flat_map sign_of_sequence sequences)
+sequences-texts [] h = h
+sequences-texts ([] ∷ sequences) h = sequences-texts sequences h
+sequences-texts ((t ∷ ts) ∷ sequences) h =
+    let rest = flat_map (λ (sequence : List Token). sequence) sequences in
+    more_have _ (flat_map sign_of_sequence sequences) (first_has t (ts ++ rest) h) (sequences-texts sequences (behind ts rest (rest_have t (ts ++ rest) h)))
   where
     behind : (xs ys : List Token) → HaveTexts (xs ++ ys) → HaveTexts ys
     behind [] ys g = g
@@ -333,20 +330,20 @@ reported-texts (t ∷ ts) h = All-cons (λ u. IsTokenText u.text) (reported (spa
 
 -- the texts of the tokens that cells give, where a blank comes before them or does not
 joined-texts : (rules : LineRules) (after_blank : Bool) (cells : List Cell) → KindsFit cells
-    → HaveTexts (tokens_from after_blank (groups both_words (runs_joined rules cells)))
+    → HaveTexts (tokens_from after_blank (groups both_words (streaks_joined rules cells)))
 joined-texts rules after_blank cells fit =
-    let joined = runs_joined rules cells in
+    let joined = streaks_joined rules cells in
     tokens_from-texts after_blank (groups both_words joined)
-    (subst KindsFit (sym (parts_of_groups both_words joined)) (fit-runs_joined rules cells fit))
+    (subst KindsFit (sym (parts_of_groups both_words joined)) (fit-streaks_joined rules cells fit))
 
 -- and with each copyright sign as one
 pub cells-texts : (rules : LineRules) (after_blank : Bool) (cells : List Cell) → KindsFit cells
-    → HaveTexts (single_signs (tokens_from after_blank (groups both_words (runs_joined rules cells))))
+    → HaveTexts (single_signs (tokens_from after_blank (groups both_words (streaks_joined rules cells))))
 cells-texts rules after_blank cells fit =
-    single_signs-texts (tokens_from after_blank (groups both_words (runs_joined rules cells))) (joined-texts rules after_blank cells fit)
+    single_signs-texts (tokens_from after_blank (groups both_words (streaks_joined rules cells))) (joined-texts rules after_blank cells fit)
 
 -- of lines
-pub lines-texts : (rules : LineRules) (text : List SourceChar) → HaveTexts (first_tokens (runs_joined rules (cells_of rules text)))
+pub lines-texts : (rules : LineRules) (text : List SourceChar) → HaveTexts (first_tokens (streaks_joined rules (cells_of rules text)))
 lines-texts rules text = joined-texts rules true (cells_of rules text) (fit-lines rules (lines_of (without_dropped text)))
 
 -- of characters of which nothing is taken
@@ -359,26 +356,13 @@ unfolding first_tokens_of
 first-texts rules input =
     cells-texts rules true (cells_of rules (source_of 0 input)) (fit-lines rules (lines_of (without_dropped (source_of 0 input))))
 
-fit-parts : (rules : LineRules) (has_front : Bool) (before : Next) (lines : List (List SourceChar)) → KindsFit (cells_of_lines rules has_front before lines)
-fit-parts rules has_front before [] = tt
-fit-parts rules has_front before (line ∷ lines) =
-    fit-append (line_cells rules (part_of has_front before line) line) (cells_of_lines rules true before lines)
-    (fit-line rules (part_of has_front before line) line) (fit-parts rules true before lines)
-
--- of a piece
-pub piece-texts : (rules : LineRules) (at_line_start : Bool) (before : Next) (text : List ℕ) → HaveTexts (piece_tokens rules at_line_start before text)
-unfolding piece_tokens piece_cells
-piece-texts rules at_line_start before text =
-    let lines = lines_of (without_dropped (unplaced (chars text))) in
-    cells-texts rules true (cells_of_lines rules at_line_start before lines) (fit-parts rules at_line_start before lines)
-
 -- after the rewriting
 pub rewritten-texts : (words : List Phrase) (ts : List Token) → HaveTokenTexts words → HaveTexts ts → AreTokenTexts (map reported (rewritten words ts))
 rewritten-texts words ts known texts =
-    let rows : HaveTexts (sign_rows ts) =
-    rows-texts (groups both_signs ts) (subst HaveTexts (sym (parts_of_groups both_signs ts)) texts) in
-    let joined = https_as_http (sign_rows ts) in
-    reported-texts (phrases_joined words joined) (phrases-texts words 0 joined known (https-texts (sign_rows ts) rows))
+    let sequences : HaveTexts (sign_sequences ts) =
+    sequences-texts (groups both_signs ts) (subst HaveTexts (sym (parts_of_groups both_signs ts)) texts) in
+    let joined = https_as_http (sign_sequences ts) in
+    reported-texts (phrases_joined words joined) (phrases-texts words 0 joined known (https-texts (sign_sequences ts) sequences))
 
 -- the texts alone
 pub rewritten-all : (words : List Phrase) (ts : List Token) → HaveTokenTexts words → HaveTexts ts

@@ -6,8 +6,5 @@ pub mod Refusal
 pub mod Views
 pub mod Feeding
 pub mod Reading
-pub mod Pieces
-pub mod PieceTexts
 pub mod Places
-pub mod Edges
 pub mod Stretches

@@ -2,6 +2,7 @@
 use Rattle.std.specs.Prelude.{◌≡◌, ◌≢◌, ◌≤◌, ◌++◌, ℕ, List, length, take, drop, map, All}
 use Rattle.lic_kind.specs.LineRules.{rules_of}
 use Rattle.lic_lines.specs.Tokens.{Token, single_signs}
+use Rattle.lic_phrases.specs.PhraseLists.{PhraseList}
 use Rattle.lic_phrases.specs.Rewriting.{SpannedText}
 use Rattle.lic_phrases.specs.Settling.{Settles}
 use Rattle.lic_phrases.specs.TokenTexts.{HaveTokenTexts}
@@ -10,6 +11,10 @@ use Rattle.lic_norm.specs.Tokens.{reported, first_tokens_of}
 use Rattle.lic_norm.specs.Feeding.{AreLines}
 use Rattle.lic_norm.specs.declared.rewriting.Rewriting.{Rewriting}
 use Rattle.lic_norm.specs.declared.reader.Reader.{Reader}
+
+-- the phrases by which it rewrites
+abbrev pub phrases_of : Rewriting → PhraseList
+phrases_of rewriting = rewriting.phrases.now
 
 -- These tokens have been taken: those that are settled are listed, and the rewriter keeps the others. The texts of all are such as
 -- tokens have.

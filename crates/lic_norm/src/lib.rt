@@ -4,7 +4,6 @@
 mod fault;
 mod feeder;
 pub mod laws;
-mod pieces;
 mod reader;
 mod refusal;
 mod rewriting;
@@ -14,8 +13,11 @@ mod words;
 
 pub use fault::TextFault;
 pub use feeder::{Feeder, read_pieces};
-pub use pieces::{Next, PieceBuffers, piece};
+pub use reader::line_tokens::{LineBuffers, ascii_text, take_ascii, take_part};
+pub use reader::lines::{line_end, lines_end, text_line_end};
 pub use refusal::MAX_BYTES;
+pub use rewriting::Rewriting;
+pub use rewriting::token_list::TokenList;
 pub use text::Text;
 pub use token::{Span, Token};
 pub use words::{Words, WordsCause, WordsFault};

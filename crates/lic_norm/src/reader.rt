@@ -35,7 +35,7 @@ pub(crate) struct Reader<'w> {
     line_start: usize,
     rewriting: Rewriting<'w>,
     rules: &'w Rules,
-    room: LineBuffers,
+    buffers: LineBuffers,
 }
 
 impl<'w> Reader<'w> {
@@ -60,7 +60,7 @@ impl<'w> Reader<'w> {
             line_start: 0,
             rewriting: Rewriting::new(alloc, words.phrases()),
             rules,
-            room: LineBuffers::new(alloc),
+            buffers: LineBuffers::new(alloc),
         }
     }
 
@@ -92,7 +92,7 @@ impl<'w> Reader<'w> {
             self.rules,
             at,
             text,
-            &mut self.room,
+            &mut self.buffers,
             &mut self.rewriting,
         )?;
         self.line_start = end;
@@ -122,7 +122,7 @@ impl<'w> Reader<'w> {
             self.rules,
             self.line_start as u32,
             line,
-            &mut self.room,
+            &mut self.buffers,
             &mut self.rewriting,
         )?;
         self.line_start = end;

@@ -6,7 +6,7 @@ ghost use Rattle.lic_lines.specs.Tokens.{Token, single_signs, text_tokens_after,
 ghost use Rattle.lic_phrases.specs.Rewriting.{rewritten};
 ghost use Rattle.lic_phrases.specs.Settling.{IsLeft};
 ghost use Rattle.lic_phrases.specs.TokenTexts.{HaveTokenTexts, IsTokenText};
-ghost use Rattle.lic_norm.specs.Reading.{HasTaken, HasTakenSome, HasTakenUpTo};
+ghost use Rattle.lic_norm.specs.Reading.{HasTaken, HasTakenSome, HasTakenUpTo, phrases_of};
 ghost use Rattle.lic_norm.specs.Spans.{HaveTexts};
 ghost use Rattle.lic_norm.specs.Stretches.{begins_sign};
 ghost use Rattle.lic_norm.specs.Tokens.{reported};
@@ -33,7 +33,7 @@ pub(crate) struct PartBuffers {
 
 /// Takes the first tokens of a text, and lists the tokens of its rewriting.
 #[derive(Drop)]
-pub(crate) struct Rewriting<'w> {
+pub struct Rewriting<'w> {
     phrases: &'w Phrases,
     rewriter: Rewriter,
     tokens: TokenList,
@@ -79,7 +79,7 @@ impl<'w> Rewriting<'w> {
     }
 
     /// Nothing is taken yet; there is memory for a number of tokens, and for the bytes of their texts.
-    pub(crate) fn with_capacity(
+    pub fn with_capacity(
         alloc: Global,
         phrases: &'w Phrases,
         tokens: usize,
@@ -87,7 +87,7 @@ impl<'w> Rewriting<'w> {
     ) -> Result<Rewriting<'w>, AllocError>
         requires { HaveTokenTexts phrases.now.phrases }
         ensures taken { IfOk result (λ r. HasTaken r []) }
-        ensures phrases { IfOk result (λ r. r.phrases.now ≡ phrases.now) }
+        ensures phrases { IfOk result (λ r. phrases_of r ≡ phrases.now) }
     {
         Ok(Rewriting {
             phrases,
@@ -362,10 +362,10 @@ impl<'w> Rewriting<'w> {
     }
 
     /// The tokens of the whole text.
-    pub(crate) fn finish(self) -> Result<TokenList, AllocError>
+    pub fn finish(self) -> Result<TokenList, AllocError>
         requires { HasTakenSome self }
         ensures { IfOk result (λ tokens. (taken : List Token) → HasTaken self.entry taken
-            → tokens ≡ map reported (rewritten self.entry.phrases.now.phrases taken)) }
+            → tokens ≡ map reported (rewritten (phrases_of self.entry).phrases taken)) }
     {
         let Rewriting {
             phrases,

@@ -45,7 +45,7 @@ impl Text {
     ///
     /// A byte that lies in no UTF-8 character begun before it, and at which none begins, is read as U+FFFD.
     /// From each line its lead, list item and tail are taken away by the line rules; then a token is a
-    /// longest row of word characters with their letters, or a mark; and signs of copyright, web addresses
+    /// longest sequence of word characters with their letters, or a mark; and signs of copyright, web addresses
     /// and equivalent words are written as one (this project's profile of SPDX 2.3 Annex B).
     ///
     /// # Errors

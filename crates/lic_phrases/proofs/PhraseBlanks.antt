@@ -14,10 +14,10 @@ use Rattle.lic_trim.specs.declared.source.SourceChar.{SourceChar}
 use Rattle.lic_trim.specs.Sources.{unplaced, without_dropped}
 use Rattle.lic_trim.specs.Texts.{groups, join_group}
 use Rattle.lic_lines.specs.Cells.{cell_of}
-use Rattle.lic_lines.specs.Runs.{without_separator, without_separators, joined, with_joined, same_mark, same_family}
+use Rattle.lic_lines.specs.Streaks.{without_separator, without_separators, joined, with_joined, same_mark, same_family}
 use Rattle.lic_lines.specs.Tokens.{Token, both_words, letters_of, tokens_from, first_tokens, is_text, is_sign_in_parentheses, as_sign, sign_from, single_signs}
 use Rattle.lic_phrases.specs.Keys.{HasNoBlank, HaveNoBlank}
-use Rattle.lic_phrases.specs.Rewriting.{both_signs, sign_of_row, sign_rows, begins_authority, https_as_http}
+use Rattle.lic_phrases.specs.Rewriting.{both_signs, sign_of_sequence, sign_sequences, begins_authority, https_as_http}
 use Rattle.lic_phrases.specs.WordLists.{texts_of, phrase_texts}
 
 -- each element has the property
@@ -70,17 +70,17 @@ cells-sound : (cs : List SourceChar) → Each IsSound (map cell_of cs)
 cells-sound [] = tt
 cells-sound (s ∷ cs) = (cell_of-sound s, cells-sound cs)
 
-without_separator-sound : (run : List Cell) → Each IsSound run → Each IsSound (without_separator run)
+without_separator-sound : (streak : List Cell) → Each IsSound streak → Each IsSound (without_separator streak)
 without_separator-sound [] known = tt
-without_separator-sound (Blank ∷ run) known = known
-without_separator-sound (Mark s ∷ run) known = each-cond (Each IsSound) (nat_le 2 (length run)) (Blank ∷ []) (Mark s ∷ run) (tt, tt) known
-without_separator-sound (Word s ∷ run) known = known
+without_separator-sound (Blank ∷ streak) known = known
+without_separator-sound (Mark s ∷ streak) known = each-cond (Each IsSound) (nat_le 2 (length streak)) (Blank ∷ []) (Mark s ∷ streak) (tt, tt) known
+without_separator-sound (Word s ∷ streak) known = known
 
-joined-sound : (run : List Cell) → Each IsSound run → Each IsSound (joined run)
+joined-sound : (streak : List Cell) → Each IsSound streak → Each IsSound (joined streak)
 joined-sound [] known = tt
-joined-sound (Blank ∷ run) known = known
-joined-sound (Mark s ∷ run) known = (known.0, tt)
-joined-sound (Word s ∷ run) known = known
+joined-sound (Blank ∷ streak) known = known
+joined-sound (Mark s ∷ streak) known = (known.0, tt)
+joined-sound (Word s ∷ streak) known = known
 
 -- ---- letters
 
@@ -184,9 +184,9 @@ single_signs-plain (a ∷ b ∷ c ∷ ts) known =
     each-cond (Each IsPlain) (is_sign_in_parentheses a b c) (sign_from a c ∷ single_signs ts) (as_sign a ∷ single_signs (b ∷ c ∷ ts))
     (copyright_plain, single_signs-plain ts known.1.1.1) (as_sign-plain a known.0, single_signs-plain (b ∷ c ∷ ts) known.1)
 
-sign_of_row-plain : (ts : List Token) → Each IsPlain ts → Each IsPlain (sign_of_row ts)
-sign_of_row-plain [] known = tt
-sign_of_row-plain (t ∷ ts) known = (known.0, tt)
+sign_of_sequence-plain : (ts : List Token) → Each IsPlain ts → Each IsPlain (sign_of_sequence ts)
+sign_of_sequence-plain [] known = tt
+sign_of_sequence-plain (t ∷ ts) known = (known.0, tt)
 
 https_as_http-plain : (ts : List Token) → Each IsPlain ts → Each IsPlain (https_as_http ts)
 https_as_http-plain [] known = tt
@@ -209,8 +209,8 @@ phrase_is_solid cs =
     (each-groups IsSound same_family parted parted_sound) in
     let signs = single_signs (first_tokens joint) in
     let plain = single_signs-plain (first_tokens joint) (tokens_from-plain true (groups both_words joint) (each-groups IsSound both_words joint joint_sound)) in
-    let rows = each-flat_map (Each IsPlain) IsPlain sign_of_row sign_of_row-plain (groups both_signs signs) (each-groups IsPlain both_signs signs plain) in
-    texts_of-plain (https_as_http (sign_rows signs)) (https_as_http-plain (sign_rows signs) rows)
+    let sequences = each-flat_map (Each IsPlain) IsPlain sign_of_sequence sign_of_sequence-plain (groups both_signs signs) (each-groups IsPlain both_signs signs plain) in
+    texts_of-plain (https_as_http (sign_sequences signs)) (https_as_http-plain (sign_sequences signs) sequences)
 
 solid_no_blank : (texts : List (List ℕ)) → AreSolid texts → HaveNoBlank texts
 solid_no_blank [] known = tt

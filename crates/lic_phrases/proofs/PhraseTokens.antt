@@ -8,7 +8,7 @@ use Rattle.lic_phrases.specs.WordLists.{texts_of}
 use Rattle.lic_lines.specs.Tokens.{Token}
 use Rattle.lic_phrases.specs.Waiting.{spanned_in}
 use Rattle.lic_phrases.specs.declared.final_token.FinalToken.{FinalToken}
-use Rattle.lic_phrases.specs.Rewriting.{spanned, https_as_http, sign_rows, phrases_joined, rewritten}
+use Rattle.lic_phrases.specs.Rewriting.{spanned, https_as_http, sign_sequences, phrases_joined, rewritten}
 
 -- where there are no phrases, none are joined
 pub phrases_joined-none : (ts : List Token) → phrases_joined [] ts ≡ ts
@@ -20,9 +20,9 @@ texts_of-spanned [] = refl
 texts_of-spanned (t ∷ ts) = ap (λ l. t.text ∷ l) (texts_of-spanned ts)
 
 -- the texts of tokens that are rewritten without phrases
-pub texts_of-rewritten : (ts : List Token) → map (λ t. t.text) (rewritten [] ts) ≡ texts_of (https_as_http (sign_rows ts))
+pub texts_of-rewritten : (ts : List Token) → map (λ t. t.text) (rewritten [] ts) ≡ texts_of (https_as_http (sign_sequences ts))
 texts_of-rewritten ts = ap (λ l. map (λ t. t.text) (map spanned l))
-    (phrases_joined-none (https_as_http (sign_rows ts))) ∙ texts_of-spanned (https_as_http (sign_rows ts))
+    (phrases_joined-none (https_as_http (sign_sequences ts))) ∙ texts_of-spanned (https_as_http (sign_sequences ts))
 
 -- the texts of settled tokens
 pub texts_of-settled : (spellings : List (List ℕ)) (ts : List FinalToken)

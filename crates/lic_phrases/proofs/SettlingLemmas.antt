@@ -7,32 +7,32 @@ use Rattle.std.proofs.lemmas.List.{length-map, map-append}
 use Rattle.lic_trim.specs.Texts.{groups, join_group}
 use Rattle.lic_lines.specs.Tokens.{Token, is_text, token_in, tokens_in}
 use Rattle.lic_lines.specs.declared.tokens.FirstToken.{FirstToken}
-use Rattle.lic_phrases.specs.Rewriting.{Phrase, SpannedText, spanned, is_sign, both_signs, sign_of_row, sign_rows, https_as_http, longest_phrase, count_after, first_as, phrases_after, phrases_joined, rewritten}
-use Rattle.lic_phrases.specs.Settling.{Kept, nothing_kept, IsShort, left_of, left_of_rows, GivesRows, Settles}
+use Rattle.lic_phrases.specs.Rewriting.{Phrase, SpannedText, spanned, is_sign, both_signs, sign_of_sequence, sign_sequences, https_as_http, longest_phrase, count_after, first_as, phrases_after, phrases_joined, rewritten}
+use Rattle.lic_phrases.specs.Settling.{Kept, nothing_kept, IsShort, left_of, left_of_sequences, GivesSequences, Settles}
 use Rattle.lic_phrases.specs.Held.{held}
 use Rattle.lic_phrases.specs.PhraseLists.{PhraseList, HaveTokens, longest_from}
 use Rattle.lic_phrases.specs.Waiting.{spanned_in, GivesMore}
 use Rattle.lic_phrases.specs.declared.final_token.FinalToken.{FinalToken}
 use Rattle.lic_phrases.proofs.PhraseLemmas.{longest_phrase-none, StandWithin-from}
-use Rattle.lic_phrases.proofs.SignLemmas.{sign_rows-other}
+use Rattle.lic_phrases.proofs.SignLemmas.{sign_sequences-other}
 use Rattle.lic_phrases.proofs.AddressLemmas.{https_as_http-other, https_as_http-few}
 
 -- ---- no step makes tokens
 
-length-join_group : (t : Token) (gs : List (List Token)) → length (flat_map sign_of_row (join_group both_signs t gs)) ≤ 1 + length (flat_map sign_of_row gs)
+length-join_group : (t : Token) (gs : List (List Token)) → length (flat_map sign_of_sequence (join_group both_signs t gs)) ≤ 1 + length (flat_map sign_of_sequence gs)
 length-join_group t [] = omega arith
 length-join_group t ([] ∷ gs) = omega arith
 length-join_group t ((u ∷ g) ∷ gs) =
     ⊎_elim
-    (λ joins. subst (λ l. length (flat_map sign_of_row l) ≤ 1 + length (flat_map sign_of_row ((u ∷ g) ∷ gs)))
+    (λ joins. subst (λ l. length (flat_map sign_of_sequence l) ≤ 1 + length (flat_map sign_of_sequence ((u ∷ g) ∷ gs)))
     (sym (cond-true (both_signs t u) ((t ∷ u ∷ g) ∷ gs) ((t ∷ []) ∷ (u ∷ g) ∷ gs) joins)) (omega arith))
-    (λ alone. subst (λ l. length (flat_map sign_of_row l) ≤ 1 + length (flat_map sign_of_row ((u ∷ g) ∷ gs)))
+    (λ alone. subst (λ l. length (flat_map sign_of_sequence l) ≤ 1 + length (flat_map sign_of_sequence ((u ∷ g) ∷ gs)))
     (sym (cond-false (both_signs t u) ((t ∷ u ∷ g) ∷ gs) ((t ∷ []) ∷ (u ∷ g) ∷ gs) alone)) (omega arith))
     (cases_Bool (both_signs t u))
 
-length-sign_rows : (ts : List Token) → length (sign_rows ts) ≤ length ts
-length-sign_rows [] = omega arith
-length-sign_rows (t ∷ ts) = omega (arith, length-join_group t (groups both_signs ts), length-sign_rows ts)
+length-sign_sequences : (ts : List Token) → length (sign_sequences ts) ≤ length ts
+length-sign_sequences [] = omega arith
+length-sign_sequences (t ∷ ts) = omega (arith, length-join_group t (groups both_signs ts), length-sign_sequences ts)
 
 length-https_as_http : (ts : List Token) → length (https_as_http ts) ≡ length ts
 length-https_as_http [] = refl
@@ -47,7 +47,7 @@ length-phrases_after words zero (t ∷ ts) = omega (arith, length-phrases_after 
 length-left_of : (words : List Phrase) (kept : Kept) → length (left_of words kept []) ≤ length kept.phrase + (length kept.address + length kept.sign)
 length-left_of words kept =
     let signs = kept.sign ++ [] in
-    let addresses = kept.address ++ sign_rows signs in
+    let addresses = kept.address ++ sign_sequences signs in
     let waiting = kept.phrase ++ https_as_http addresses in
     omega (
       arith,
@@ -55,8 +55,8 @@ length-left_of words kept =
       length-phrases_after words 0 waiting,
       length-append kept.phrase (https_as_http addresses),
       length-https_as_http addresses,
-      length-append kept.address (sign_rows signs),
-      length-sign_rows signs,
+      length-append kept.address (sign_sequences signs),
+      length-sign_sequences signs,
       ap length (append-nil kept.sign),
     )
 
@@ -89,50 +89,50 @@ Settles-short words taken settled kept goes_on short = record {
   );
 }
 
--- The first step takes a token and passes rows on, and the steps after it take these.
-pub Settles-more : (words : List Phrase) (taken : List Token) (settled settled' : List SpannedText) (kept kept' : Kept) (t : Token) (rows : List Token)
+-- The first step takes a token and passes sequences on, and the steps after it take these.
+pub Settles-more : (words : List Phrase) (taken : List Token) (settled settled' : List SpannedText) (kept kept' : Kept) (t : Token) (sequences : List Token)
     → Settles words taken settled kept
-    → ((rest : List Token) → sign_rows (kept.sign ++ t ∷ rest) ≡ rows ++ sign_rows (kept'.sign ++ rest))
-    → GivesRows words settled kept rows settled' kept'
+    → ((rest : List Token) → sign_sequences (kept.sign ++ t ∷ rest) ≡ sequences ++ sign_sequences (kept'.sign ++ rest))
+    → GivesSequences words settled kept sequences settled' kept'
     → IsShort kept'
     → Settles words (taken ++ t ∷ []) settled' kept'
-Settles-more words taken settled settled' kept kept' t rows before sign_eq gives short =
+Settles-more words taken settled settled' kept kept' t sequences before sign_eq gives short =
     Settles-short words (taken ++ t ∷ []) settled' kept'
     (λ rest.
     ap (rewritten words) (append_assoc taken (t ∷ []) rest)
     ∙ before.goes_on (t ∷ rest)
-    ∙ ap (λ l. settled ++ left_of_rows words kept l) (sign_eq rest)
-    ∙ gives (sign_rows (kept'.sign ++ rest)))
+    ∙ ap (λ l. settled ++ left_of_sequences words kept l) (sign_eq rest)
+    ∙ gives (sign_sequences (kept'.sign ++ rest)))
     short
 
--- rows that are taken one after the other
-pub GivesRows-both : (words : List Phrase) (given given' given'' : List SpannedText) (kept kept' kept'' : Kept)
-    (rows more : List Token) → GivesRows words given kept rows given' kept'
-    → GivesRows words given' kept' more given'' kept'' → GivesRows words given kept (rows ++ more) given'' kept''
-GivesRows-both words given given' given'' kept kept' kept'' rows more first second =
-    λ rest. ap (λ l. given ++ left_of_rows words kept l) (append_assoc rows more rest) ∙ first (more ++ rest)
+-- sequences that are taken one after the other
+pub GivesSequences-both : (words : List Phrase) (given given' given'' : List SpannedText) (kept kept' kept'' : Kept)
+    (sequences more : List Token) → GivesSequences words given kept sequences given' kept'
+    → GivesSequences words given' kept' more given'' kept'' → GivesSequences words given kept (sequences ++ more) given'' kept''
+GivesSequences-both words given given' given'' kept kept' kept'' sequences more first second =
+    λ rest. ap (λ l. given ++ left_of_sequences words kept l) (append_assoc sequences more rest) ∙ first (more ++ rest)
     ∙ second rest
 
 -- what was given before stays in front
-pub GivesRows-behind : (words : List Phrase) (front given given' : List SpannedText) (kept kept' : Kept)
-    (rows : List Token) → GivesRows words given kept rows given' kept'
-    → GivesRows words (front ++ given) kept rows (front ++ given') kept'
-GivesRows-behind words front given given' kept kept' rows gives =
-    λ rest. behind_front front given given' (left_of_rows words kept (rows ++ rest)) (left_of_rows words kept' rest)
+pub GivesSequences-behind : (words : List Phrase) (front given given' : List SpannedText) (kept kept' : Kept)
+    (sequences : List Token) → GivesSequences words given kept sequences given' kept'
+    → GivesSequences words (front ++ given) kept sequences (front ++ given') kept'
+GivesSequences-behind words front given given' kept kept' sequences gives =
+    λ rest. behind_front front given given' (left_of_sequences words kept (sequences ++ rest)) (left_of_sequences words kept' rest)
     (gives rest)
 
 -- a token that is no `https` goes straight on where none waits before it
-pub GivesRows-plain : (list : PhraseList) (given given' : List FinalToken) (waiting waiting' : List FirstToken) (row : FirstToken) (sign : List Token) → is_text (codes "https") (token_in row) ≡ false → GivesMore list false given (waiting ++ row ∷ []) given' waiting'
-    → GivesRows list.phrases (map (spanned_in list.spellings) given)
-    (record { sign = sign; address = []; phrase = tokens_in waiting }) (token_in row ∷ [])
+pub GivesSequences-plain : (list : PhraseList) (given given' : List FinalToken) (waiting waiting' : List FirstToken) (sequence : FirstToken) (sign : List Token) → is_text (codes "https") (token_in sequence) ≡ false → GivesMore list false given (waiting ++ sequence ∷ []) given' waiting'
+    → GivesSequences list.phrases (map (spanned_in list.spellings) given)
+    (record { sign = sign; address = []; phrase = tokens_in waiting }) (token_in sequence ∷ [])
     (map (spanned_in list.spellings) given') (record { sign = sign; address = []; phrase = tokens_in waiting' })
-GivesRows-plain list given given' waiting waiting' row sign other more = λ rest.
+GivesSequences-plain list given given' waiting waiting' sequence sign other more = λ rest.
     let old = map (spanned_in list.spellings) given in
     let behind = https_as_http rest in
-    ap (λ l. old ++ map spanned (phrases_joined list.phrases (tokens_in waiting ++ l))) (https_as_http-other (token_in row) rest other)
+    ap (λ l. old ++ map spanned (phrases_joined list.phrases (tokens_in waiting ++ l))) (https_as_http-other (token_in sequence) rest other)
     ∙ ap (λ l. old ++ map spanned (phrases_joined list.phrases l))
-    (sym (append_assoc (tokens_in waiting) (token_in row ∷ []) behind)
-    ∙ ap (λ l. l ++ behind) (sym (map-append token_in waiting (row ∷ []))))
+    (sym (append_assoc (tokens_in waiting) (token_in sequence ∷ []) behind)
+    ∙ ap (λ l. l ++ behind) (sym (map-append token_in waiting (sequence ∷ []))))
     ∙ more behind (λ e. absurd (false≢true e))
 
 pub Settles-new : (words : List Phrase) → Settles words [] [] nothing_kept
@@ -144,15 +144,15 @@ Settles-new words = record {
 
 -- ---- the end of a text
 
-sign_rows-one : (ts : List Token) → length ts ≤ 1 → sign_rows (ts ++ []) ≡ ts ++ []
-sign_rows-one [] one = refl
-sign_rows-one (t ∷ []) one = refl
-sign_rows-one (t ∷ u ∷ ts) one = absurd (omega arith)
+sign_sequences-one : (ts : List Token) → length ts ≤ 1 → sign_sequences (ts ++ []) ≡ ts ++ []
+sign_sequences-one [] one = refl
+sign_sequences-one (t ∷ []) one = refl
+sign_sequences-one (t ∷ u ∷ ts) one = absurd (omega arith)
 
 -- at the end of a text the steps give what they keep
 pub Settles-end : (words : List Phrase) (taken : List Token) (settled settled' settled'' : List SpannedText) (kept kept' : Kept) (waiting : List Token)
     → Settles words taken settled kept
-    → GivesRows words settled kept kept.sign settled' kept'
+    → GivesSequences words settled kept kept.sign settled' kept'
     → IsShort kept'
     → waiting ≡ kept'.phrase ++ kept'.address
     → settled' ++ map spanned (phrases_joined words (waiting ++ [])) ≡ settled'' ++ []
@@ -161,7 +161,7 @@ Settles-end words taken settled settled' settled'' kept kept' waiting before giv
     sym
     (ap (rewritten words) (sym (append-nil taken))
     ∙ before.goes_on []
-    ∙ ap (λ l. settled ++ left_of_rows words kept l) (sign_rows-one kept.sign before.short.sign)
+    ∙ ap (λ l. settled ++ left_of_sequences words kept l) (sign_sequences-one kept.sign before.short.sign)
     ∙ gives []
     ∙ ap (λ l. settled' ++ map spanned (phrases_joined words (kept'.phrase ++ https_as_http l))) (append-nil kept'.address)
     ∙ ap (λ l. settled' ++ map spanned (phrases_joined words (kept'.phrase ++ l))) (https_as_http-few kept'.address short.address)
@@ -191,11 +191,11 @@ pub Settles-alone : (words : List Phrase) (t : Token) (settled : List SpannedTex
 Settles-alone words t settled taken no_sign no_https some bound before =
     let one : List SpannedText = spanned t ∷ [] in
     Settles-more words taken settled (settled ++ one) nothing_kept nothing_kept t (t ∷ []) before
-    (λ rest. sign_rows-other t rest no_sign)
+    (λ rest. sign_sequences-other t rest no_sign)
     (λ rest.
     let behind = https_as_http rest in
     let none : longest_phrase words (t ∷ behind) ≡ None = longest_phrase-none words (t ∷ behind) some (StandWithin-from 0 words t behind some bound) in
     ap (λ l. settled ++ map spanned (phrases_joined words l)) (https_as_http-other t rest no_https)
     ∙ ap (λ phrase. settled ++ map spanned (first_as phrase t behind ∷ phrases_after words (count_after phrase) behind)) none
-    ∙ sym (append_assoc settled one (left_of_rows words nothing_kept rest)))
+    ∙ sym (append_assoc settled one (left_of_sequences words nothing_kept rest)))
     (record { sign = omega arith; address = omega arith; phrase = omega arith })

@@ -1,4 +1,4 @@
--- The rewriting of a text's tokens: rows of signs, the scheme of web addresses, and phrases of equivalent words.
+-- The rewriting of a text's tokens: sequences of signs, the scheme of web addresses, and phrases of equivalent words.
 use Rattle.std.specs.Prelude.{ℕ, zero, suc, ◌-◌, Bool, true, false, ◌&&◌, nat_lt, if◌then◌else◌, List, [], ◌∷◌, length, take, map, codes, Option, Some, None}
 use Rattle.std.specs.List.{flat_map}
 use Rattle.lic_trim.specs.Texts.{groups}
@@ -13,7 +13,7 @@ end_of_last t (u ∷ ts) = end_of_last u ts
 abbrev pub joined_as : List ℕ → Token → List Token → Token
 joined_as text t ts = record t { text = text; end = end_of_last t ts }
 
--- ---- rows of signs
+-- ---- sequences of signs
 
 abbrev pub is_sign : Token → Bool
 is_sign = is_text (codes "copyright")
@@ -21,14 +21,14 @@ is_sign = is_text (codes "copyright")
 abbrev pub both_signs : Token → Token → Bool
 both_signs t u = is_sign t && is_sign u
 
--- a row of signs as one sign; any other token is a row of its own
-abbrev pub sign_of_row : List Token → List Token
-sign_of_row [] = []
-sign_of_row (t ∷ ts) = joined_as t.text t ts ∷ []
+-- a sequence of signs as one sign; any other token is a sequence of its own
+abbrev pub sign_of_sequence : List Token → List Token
+sign_of_sequence [] = []
+sign_of_sequence (t ∷ ts) = joined_as t.text t ts ∷ []
 
--- each longest row of neighbouring signs as one
-abbrev pub sign_rows : List Token → List Token
-sign_rows ts = flat_map sign_of_row (groups both_signs ts)
+-- each longest sequence of neighbouring signs as one
+abbrev pub sign_sequences : List Token → List Token
+sign_sequences ts = flat_map sign_of_sequence (groups both_signs ts)
 
 -- ---- web addresses
 
@@ -105,4 +105,4 @@ spanned t = record { text = t.text; start = t.start; end = t.end }
 
 -- the tokens of a text, from its first tokens with single signs joined
 abbrev pub rewritten : List Phrase → List Token → List SpannedText
-rewritten words ts = map spanned (phrases_joined words (https_as_http (sign_rows ts)))
+rewritten words ts = map spanned (phrases_joined words (https_as_http (sign_sequences ts)))

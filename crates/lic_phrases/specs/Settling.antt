@@ -1,7 +1,7 @@
 -- Tokens that come one by one: what is settled, and what is kept back.
 use Rattle.std.specs.Prelude.{◌≡◌, ◌+◌, ◌≤◌, ℕ, List, [], ◌∷◌, ◌++◌, length, map}
 use Rattle.lic_lines.specs.Tokens.{Token}
-use Rattle.lic_phrases.specs.Rewriting.{Phrase, SpannedText, spanned, sign_rows, https_as_http, phrases_joined, rewritten}
+use Rattle.lic_phrases.specs.Rewriting.{Phrase, SpannedText, spanned, sign_sequences, https_as_http, phrases_joined, rewritten}
 
 -- What each step of the rewriting keeps back: tokens that it has taken and not yet given to the next.
 pub record Kept : Type 0 where
@@ -21,18 +21,18 @@ pub record IsShort (kept : Kept) : Type 0 where
   pub address : length kept.address ≤ 3
   pub phrase : length kept.phrase ≤ 7
 
--- what the steps after the first still give for what they keep, with these rows of signs and other tokens after it
-abbrev pub left_of_rows : List Phrase → Kept → List Token → List SpannedText
-left_of_rows words kept rest = map spanned (phrases_joined words (kept.phrase ++ https_as_http (kept.address ++ rest)))
+-- what the steps after the first still give for what they keep, with these sequences of signs and other tokens after it
+abbrev pub left_of_sequences : List Phrase → Kept → List Token → List SpannedText
+left_of_sequences words kept rest = map spanned (phrases_joined words (kept.phrase ++ https_as_http (kept.address ++ rest)))
 
 -- what the steps still give for what they keep, with these tokens after it
 abbrev pub left_of : List Phrase → Kept → List Token → List SpannedText
-left_of words kept rest = left_of_rows words kept (sign_rows (kept.sign ++ rest))
+left_of words kept rest = left_of_sequences words kept (sign_sequences (kept.sign ++ rest))
 
--- The steps after the first took these rows. They have given more, and the whole is the same, whatever rows follow.
-abbrev pub GivesRows : List Phrase → List SpannedText → Kept → List Token → List SpannedText → Kept → Type 0
-GivesRows words given kept rows given' kept' =
-    (rest : List Token) → given ++ left_of_rows words kept (rows ++ rest) ≡ given' ++ left_of_rows words kept' rest
+-- The steps after the first took these sequences. They have given more, and the whole is the same, whatever sequences follow.
+abbrev pub GivesSequences : List Phrase → List SpannedText → Kept → List Token → List SpannedText → Kept → Type 0
+GivesSequences words given kept sequences given' kept' =
+    (rest : List Token) → given ++ left_of_sequences words kept (sequences ++ rest) ≡ given' ++ left_of_sequences words kept' rest
 
 -- Of the tokens taken so far these are settled, and the others come from what is kept, whatever tokens follow: so the
 -- settled ones begin the tokens of every text that begins so. Little is kept, and so at most 11 tokens of the text so far

@@ -9,7 +9,7 @@ use Rattle.lic_trim.specs.Sources.{unplaced, without_dropped}
 use Rattle.lic_kind.specs.LineRules.{profile}
 use Rattle.lic_lines.specs.Cells.{cell_of}
 use Rattle.lic_lines.specs.Tokens.{Token, tokens_of_cells}
-use Rattle.lic_phrases.specs.Rewriting.{Phrase, sign_rows, https_as_http}
+use Rattle.lic_phrases.specs.Rewriting.{Phrase, sign_sequences, https_as_http}
 use Rattle.lic_phrases.specs.Spelling.{spelled}
 use Rattle.lic_phrases.specs.Classes.{Equivalent, IsFirst}
 use Rattle.lic_phrases.specs.declared.fault.WordsCause.{WordsCause}
@@ -25,7 +25,7 @@ texts_of tokens = map (λ t. t.text) tokens
 -- signs are joined and https is http, and no phrase is looked for
 abbrev pub phrase_texts : List ℕ → List (List ℕ)
 phrase_texts cs = texts_of (https_as_http
-    (sign_rows (tokens_of_cells profile (map cell_of (without_dropped (unplaced cs))))))
+    (sign_sequences (tokens_of_cells profile (map cell_of (without_dropped (unplaced cs))))))
 
 -- ---- lines
 

@@ -58,7 +58,7 @@ impl<T: Drop> From<AllocFailed<T>> for WordsCause {
 
 /// The first fault of a list of equivalent words.
 #[derive(Clone, Copy, Debug, PartialEq, Eq, Error)]
-#[error("{}{}: {}", .cause.code(), Place(*.line), .cause.text())]
+#[error("{}{}: {}", .cause.code(), AtLine(*.line), .cause.text())]
 pub struct WordsFault {
     /// The line of the phrase at fault, counted from 1; 0 for lack of memory.
     pub line: usize,
@@ -93,11 +93,11 @@ impl WordsCause {
     }
 }
 
-/// Where a fault is, if anywhere.
+/// The line of a fault, as it is written: nothing of line 0.
 #[derive(Clone, Copy)]
-struct Place(usize);
+struct AtLine(usize);
 
-impl fmt::Display for Place {
+impl fmt::Display for AtLine {
     fn fmt<W: fmt::Write>(&self, f: &mut fmt::Formatter<W>) -> fmt::Result {
         match self.0 {
             0 => Ok(()),

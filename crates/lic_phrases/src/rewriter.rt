@@ -2,26 +2,26 @@
 ghost use Rattle.std.specs.Prelude.{◌≡◌, ◌<◌, ◌∷◌, ◌++◌, [], List, IsTrue, OnOk, length, map};
 ghost use Rattle.lic_lines.specs.Tokens.{Token, token_in, tokens_in};
 ghost use Rattle.lic_phrases.specs.Rewriting.{SpannedText, rewritten, spanned};
-ghost use Rattle.lic_phrases.specs.Settling.{Settles, GivesRows, IsLeft, IsShort, nothing_kept};
+ghost use Rattle.lic_phrases.specs.Settling.{Settles, GivesSequences, IsLeft, IsShort, nothing_kept};
 ghost use Rattle.lic_phrases.specs.FirstTexts.{IsPlain};
 ghost use Rattle.lic_phrases.specs.Waiting.{spanned_in, AreKnown};
 
 pub(crate) mod address;
 pub(crate) mod merging;
-pub(crate) mod sign_rows;
+pub(crate) mod sign_sequences;
 
 use crate::final_token::FinalToken;
 use crate::phrases::Phrases;
 use crate::rewriter::address::{is_https, pop_settled};
 use crate::rewriter::merging::{give_known, take_token};
-use crate::rewriter::sign_rows::{is_sign, join_sign};
+use crate::rewriter::sign_sequences::{is_sign, join_sign};
 use lic_lines::FirstToken;
 use std::alloc::{AllocError, Global};
 use std::collections::VecDeque;
 use std::marker::Model;
 
 /// Rewrites the tokens of a text as they come (SPDX 2.3, Annex B; this project's profile). Each
-/// longest row of copyright signs becomes one sign, `https` before `:`, `/` and `/` becomes `http`,
+/// longest sequence of copyright signs becomes one sign, `https` before `:`, `/` and `/` becomes `http`,
 /// and then, from the left, the longest phrase becomes one token. A token is kept back only where it
 /// is a sign, an `https` or what follows one, or may begin a phrase; these are 11 at most. After an error
 /// it is of no use.
@@ -90,7 +90,7 @@ impl Rewriter {
             self.sign = Some(token);
             return Ok(());
         }
-        self.take_row(phrases, token, output)
+        self.take_sequence(phrases, token, output)
     }
 
     /// Whether none is kept back.
@@ -170,7 +170,7 @@ impl Rewriter {
         phrases: &Phrases,
         output: &mut Vec<FinalToken>,
     ) -> Result<(), AllocError>
-        ensures given { OnOk result (GivesRows phrases.now.phrases
+        ensures given { OnOk result (GivesSequences phrases.now.phrases
             (map (spanned_in phrases.now.spellings) output.old.items) self.old self.old.sign
             (map (spanned_in phrases.now.spellings) output.new.items) self.new) }
         ensures sign { self.new.sign ≡ [] }
@@ -184,31 +184,31 @@ impl Rewriter {
         }
         match self.sign.take() {
             None => Ok(()),
-            Some(row) => self.take_row(phrases, row, output),
+            Some(sequence) => self.take_sequence(phrases, sequence, output),
         }
     }
 
-    /// Takes a row of signs or another token, and gives the tokens that are now settled. Where none
+    /// Takes a sequence of signs or another token, and gives the tokens that are now settled. Where none
     /// waits for an address, the token need not wait for one either unless it is `https`.
     #[inline(always)]
-    fn take_row(
+    fn take_sequence(
         &mut self,
         phrases: &Phrases,
-        row: FirstToken,
+        sequence: FirstToken,
         output: &mut Vec<FinalToken>,
     ) -> Result<(), AllocError>
-        ensures given { OnOk result (GivesRows phrases.now.phrases
-            (map (spanned_in phrases.now.spellings) output.old.items) self.old (token_in row ∷ [])
+        ensures given { OnOk result (GivesSequences phrases.now.phrases
+            (map (spanned_in phrases.now.spellings) output.old.items) self.old (token_in sequence ∷ [])
             (map (spanned_in phrases.now.spellings) output.new.items) self.new) }
         ensures sign { self.new.sign ≡ self.old.sign }
         ensures short { IsShort self.old → OnOk result (IsShort self.new) }
         ensures known { AreKnown (length phrases.now.spellings) output.old.items
             → OnOk result (AreKnown (length phrases.now.spellings) output.new.items) }
     {
-        if self.address.is_empty() && !is_https(&row) {
-            return take_token(phrases, row, &mut self.waiting, &mut self.key, output);
+        if self.address.is_empty() && !is_https(&sequence) {
+            return take_token(phrases, sequence, &mut self.waiting, &mut self.key, output);
         }
-        self.address.push_back(row)?;
+        self.address.push_back(sequence)?;
         while let Some(settled) = pop_settled(&mut self.address) {
             take_token(phrases, settled, &mut self.waiting, &mut self.key, output)?;
         }

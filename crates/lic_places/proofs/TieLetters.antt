@@ -8,8 +8,8 @@ use Rattle.std.proofs.lemmas.Str.{encode_ascii}
 use Rattle.lic_kind.specs.Kinds.{kind_of}
 use Rattle.lic_words.specs.Words.{blank}
 use Rattle.lic_words.specs.Letters.{is_word}
-use Rattle.lic_words.specs.Spelling.{gap_of, gapped_from, row_of}
-use Rattle.lic_words.proofs.Rows.{gapped_from-letter}
+use Rattle.lic_words.specs.Spelling.{gap_of, gapped_from, sequence_of}
+use Rattle.lic_words.proofs.Sequences.{gapped_from-letter}
 use Rattle.lic_phrases.specs.Spelling.{first_is_word}
 use Rattle.lic_norm.specs.Tokens.{TokenValue}
 use Rattle.lic_norm.specs.Places.{IsTokenEnd}
@@ -32,20 +32,20 @@ pub record AreWordsApart (whole : List ℕ) : Type 0 where
 last-push : (front : List ℕ) (c : ℕ) → first_is_word (reverse (front ++ c ∷ [])) ≡ is_word c
 last-push front c = ap first_is_word (reverse-append front (c ∷ []))
 
--- the first letter of the first token of a row, with the gap before it, and the others
+-- the first letter of the first token of a sequence, with the gap before it, and the others
 pub gapped_from-token : (last : ℕ) (t cs : List ℕ) (ts : List (List ℕ)) (c : ℕ) (b : Bool) → t ≡ c ∷ cs → c ≢ blank
     → is_word last && is_word c ≡ b
-    → gapped_from last false (row_of (t ∷ ts)) ≡ (gap_of true b, c) ∷ gapped_from c false (cs ++ row_of ts)
+    → gapped_from last false (sequence_of (t ∷ ts)) ≡ (gap_of true b, c) ∷ gapped_from c false (cs ++ sequence_of ts)
 gapped_from-token last t cs ts c b are other words =
-    ap (λ x. gapped_from last true (x ++ row_of ts)) are
-    ∙ gapped_from-letter last true c (cs ++ row_of ts) (ne_eqb c blank other)
-    ∙ ap (λ x. (gap_of true x, c) ∷ gapped_from c false (cs ++ row_of ts)) words
+    ap (λ x. gapped_from last true (x ++ sequence_of ts)) are
+    ∙ gapped_from-letter last true c (cs ++ sequence_of ts) (ne_eqb c blank other)
+    ∙ ap (λ x. (gap_of true x, c) ∷ gapped_from c false (cs ++ sequence_of ts)) words
 
 -- the letters of a token, whose text is from one place up to another, and what follows it
 module _ (tokens : List TokenValue) (whole : List ℕ) (apart : AreWordsApart whole) (start stop : ℕ)
-    (inside : (p : ℕ) → start < p → p < stop → IsTokenEnd tokens p → ⊥) (after : List ℕ) (row : List ℕ) (e : ℕ)
+    (inside : (p : ℕ) → start < p → p < stop → IsTokenEnd tokens p → ⊥) (after : List ℕ) (sequence : List ℕ) (e : ℕ)
     (go_on : (last : ℕ) → is_word last ≡ first_is_word (reverse whole) → (IsAfterBlank (spelling_of tokens) stop → ⊥)
-    → StandGapped tokens stop (gapped_from last false row) e) where
+    → StandGapped tokens stop (gapped_from last false sequence) e) where
   -- from some place inside on these letters occur, after one that is no blank
   pub record IsAt (front : List ℕ) (last p : ℕ) (cs : List ℕ) : Type 0 where
     pub parts : whole ≡ front ++ cs
@@ -57,7 +57,7 @@ module _ (tokens : List TokenValue) (whole : List ℕ) (apart : AreWordsApart wh
     pub stops : stop ≡ p + length (encode_utf8_all cs)
 
   abbrev pub GoesOn : List ℕ → Type 0
-  GoesOn cs = (front : List ℕ) (last p : ℕ) → IsAt front last p cs → StandGapped tokens p (gapped_from last false (cs ++ row)) e
+  GoesOn cs = (front : List ℕ) (last p : ℕ) → IsAt front last p cs → StandGapped tokens p (gapped_from last false (cs ++ sequence)) e
 
   abbrev GoesOnAfter : List ℕ → Type 0
   GoesOnAfter [] = Unit {0}
@@ -67,7 +67,7 @@ module _ (tokens : List TokenValue) (whole : List ℕ) (apart : AreWordsApart wh
   goes_end front last p at =
       let whole_front : whole ≡ front = at.parts ∙ append-nil front in
       let here : stop ≡ p = omega (arith, at.stops) in
-      subst (λ q. StandGapped tokens q (gapped_from last false row) e) here
+      subst (λ q. StandGapped tokens q (gapped_from last false sequence) e) here
       (go_on last (sym at.last_is ∙ ap (λ x. first_is_word (reverse x)) (sym whole_front))
       (λ blank_before. at.solid (subst (IsAfterBlank (spelling_of tokens)) here blank_before)))
 
@@ -92,7 +92,7 @@ module _ (tokens : List TokenValue) (whole : List ℕ) (apart : AreWordsApart wh
       let bytes = at.bytes ∙ append_assoc (encode_utf8 c) (encode_utf8_all cs) after in
       let next = next_place front last p c cs other at in
       let before_stop : p < stop = omega (arith, at.stops, length-append (encode_utf8 c) (encode_utf8_all cs), length-letter c) in
-      rw (gapped_from-letter last false c (cs ++ row) h) (
+      rw (gapped_from-letter last false c (cs ++ sequence) h) (
         p,
         p + length (encode_utf8 c),
         (refl, is_shut_inside tokens (encode_utf8_all cs ++ after) p c other bytes (omega (arith, at.forward)) (inside p at.forward before_stop)),
@@ -114,7 +114,7 @@ module _ (tokens : List TokenValue) (whole : List ℕ) (apart : AreWordsApart wh
       at.bytes ∙ ap (λ x. x ++ after) written ∙ ap (λ x. 0x20 ∷ x) (append_assoc (encode_utf8 d) (encode_utf8_all cs) after) in
       let next_bytes : drop (suc p) (spelling_of tokens) ≡ encode_utf8 d ++ rest = drop-blank (spelling_of tokens) (encode_utf8 d ++ rest) p bytes in
       let both : is_word last && is_word d ≡ true = ap₂ (λ a b. a && b) (sym at.last_is ∙ words.0) words.1 in
-      rw (gapped_from-letter last true d (cs ++ row) (ne_eqb d blank other), both) (
+      rw (gapped_from-letter last true d (cs ++ sequence) (ne_eqb d blank other), both) (
         suc p,
         suc p + length (encode_utf8 d),
         is_needed_before tokens rest p d other bytes at.solid,

@@ -7,7 +7,7 @@ use Rattle.std.proofs.lemmas.List.{length-map, drop-map, take-map}
 use Rattle.std.proofs.Math.Seq.{drop-cons}
 use Rattle.lic_words.specs.Words.{Word, blank}
 use Rattle.lic_words.specs.Letters.{is_word}
-use Rattle.lic_words.specs.Spelling.{Gap, no_gap, free, needed, gap_of, gapped, gapped_from, row_of, Spells, SpellsGapped}
+use Rattle.lic_words.specs.Spelling.{Gap, no_gap, free, needed, gap_of, gapped, gapped_from, sequence_of, Spells, SpellsGapped}
 use Rattle.lic_words.proofs.Spellings.{gap-behind_blank}
 use Rattle.lic_phrases.specs.Spelling.{is_parted}
 use Rattle.lic_norm.specs.Tokens.{TokenValue}
@@ -106,10 +106,10 @@ module _ (tokens : List TokenValue) (known : AreTexts tokens) where
   spells_range first m w h =
       let within : first < length tokens = omega arith in
       let e = place_end tokens (first + m) in
-      let row = row_of (map chars (take m (drop (suc first) (texts_of tokens)))) in
-      let token = token_stands tokens known first within row e (λ l l_is solid. tokens_stand tokens known m first l h l_is) in
+      let sequence = sequence_of (map chars (take m (drop (suc first) (texts_of tokens)))) in
+      let token = token_stands tokens known first within sequence e (λ l l_is solid. tokens_stand tokens known m first l h l_is) in
       let c = token.letter in
-      let gaps = gapped_from c false (token.others ++ row) in
+      let gaps = gapped_from c false (token.others ++ sequence) in
       let (b, p, gap) = first_gap first c token.others within token.stands.other token.are in
       let shape : gapped (map (λ t. chars t.text) (take (suc m) (drop first tokens))) ≡ (free, c) ∷ gaps =
       ap gapped (range_letters first m within)

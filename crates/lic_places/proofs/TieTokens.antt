@@ -8,7 +8,7 @@ use Rattle.std.proofs.lemmas.Str.{chars-encodes, encodes-chars, encodes-append, 
 use Rattle.std.proofs.Math.Seq.{drop-cons}
 use Rattle.lic_words.specs.Words.{blank}
 use Rattle.lic_words.specs.Letters.{is_word}
-use Rattle.lic_words.specs.Spelling.{needed, gap_of, gapped_from, row_of}
+use Rattle.lic_words.specs.Spelling.{needed, gap_of, gapped_from, sequence_of}
 use Rattle.lic_phrases.specs.Spelling.{first_is_word, ends_in_word, is_parted, blank_if}
 use Rattle.lic_norm.specs.Tokens.{TokenValue}
 use Rattle.lic_norm.specs.Places.{place_start, place_end, texts_of}
@@ -61,30 +61,30 @@ first_other text cs c utf8 token is same =
 pub text_written : (text cs : List ℕ) (c : ℕ) → IsUtf8 text → chars text ≡ c ∷ cs → text ≡ encode_utf8 c ++ encode_utf8_all cs
 text_written text cs c utf8 is = sym (encodes-chars text utf8) ∙ ap encode_utf8_all is
 
--- a row is where the gap before its first token does, and the letters of the token and of the others
-row_stands : (tokens : List TokenValue) (p e last : ℕ) (t cs : List ℕ) (ts : List (List ℕ)) (c : ℕ) (b : Bool) (r s : ℕ) → t ≡ c ∷ cs
+-- a sequence is where the gap before its first token does, and the letters of the token and of the others
+sequence_stands : (tokens : List TokenValue) (p e last : ℕ) (t cs : List ℕ) (ts : List (List ℕ)) (c : ℕ) (b : Bool) (r s : ℕ) → t ≡ c ∷ cs
     → is_word last && is_word c ≡ b → StandsGap tokens p (gap_of true b) r → HasLetter tokens r c s
-    → StandGapped tokens s (gapped_from c false (cs ++ row_of ts)) e → StandGapped tokens p (gapped_from last false (row_of (t ∷ ts))) e
-row_stands tokens p e last t cs ts c b r s are words gap letter later =
+    → StandGapped tokens s (gapped_from c false (cs ++ sequence_of ts)) e → StandGapped tokens p (gapped_from last false (sequence_of (t ∷ ts))) e
+sequence_stands tokens p e last t cs ts c b r s are words gap letter later =
     subst (λ gaps. StandGapped tokens p gaps e) (sym (gapped_from-token last t cs ts c b are letter.other words)) (r, s, gap, letter, later)
 
 -- ---- one token
 
 module _ (tokens : List TokenValue) (known : AreTexts tokens) where
-  -- the first letter of a token, and its other letters with a row after them
-  pub record TokenStands (i : ℕ) (row : List ℕ) (e : ℕ) : Type 0 where
+  -- the first letter of a token, and its other letters with a sequence after them
+  pub record TokenStands (i : ℕ) (sequence : List ℕ) (e : ℕ) : Type 0 where
     pub letter : ℕ
     pub others : List ℕ
     pub next : ℕ
     pub are : chars (text_at tokens i) ≡ letter ∷ others
     pub stands : HasLetter tokens (place_start tokens i) letter next
-    pub later : StandGapped tokens next (gapped_from letter false (others ++ row)) e
+    pub later : StandGapped tokens next (gapped_from letter false (others ++ sequence)) e
 
-  pub token_stands : (i : ℕ) → i < length tokens → (row : List ℕ) (e : ℕ)
+  pub token_stands : (i : ℕ) → i < length tokens → (sequence : List ℕ) (e : ℕ)
       → ((last : ℕ) → is_word last ≡ ends_in_word (text_at tokens i) → (IsAfterBlank (spelling_of tokens) (place_end tokens i) → ⊥)
-      → StandGapped tokens (place_end tokens i) (gapped_from last false row) e)
-      → TokenStands i row e
-  token_stands i h row e go_on =
+      → StandGapped tokens (place_end tokens i) (gapped_from last false sequence) e)
+      → TokenStands i sequence e
+  token_stands i h sequence e go_on =
       let text = text_at tokens i in
       let utf8 = text-utf8 tokens i known h in
       let token = text-token tokens i known h in
@@ -107,7 +107,7 @@ module _ (tokens : List TokenValue) (known : AreTexts tokens) where
         are = are;
         stands = has;
         later = letters_stand tokens (chars text) (words_apart text utf8 token) start (place_end tokens i)
-            (λ p after before. no_end_inside tokens i p h after before) around.0 row e go_on cs (c ∷ []) c next (record {
+            (λ p after before. no_end_inside tokens i p h after before) around.0 sequence e go_on cs (c ∷ []) c next (record {
               parts = are;
               last_is = refl;
               scalars = (and_parts _ _ scalars).1;
@@ -171,21 +171,21 @@ module _ (tokens : List TokenValue) (known : AreTexts tokens) where
 
   -- the tokens after one of them
   pub tokens_stand : (m i last : ℕ) → i + m < length tokens → is_word last ≡ ends_in_word (text_at tokens i)
-      → StandGapped tokens (place_end tokens i) (gapped_from last false (row_of (letters_after m i))) (place_end tokens (i + m))
+      → StandGapped tokens (place_end tokens i) (gapped_from last false (sequence_of (letters_after m i))) (place_end tokens (i + m))
   tokens_stand zero i last h last_is =
       let within : i < length tokens = omega arith in
       (ap (place_end tokens) (sym (add-zero i)), stays (not_behind_end i within) (end_gap i within))
   tokens_stand (suc m) i last h last_is =
       let within : suc i < length tokens = omega arith in
-      let row = row_of (letters_after m (suc i)) in
+      let sequence = sequence_of (letters_after m (suc i)) in
       let later_end : suc i + m ≡ i + suc m = omega arith in
-      let token = token_stands (suc i) within row (place_end tokens (i + suc m))
-      (λ l l_is solid. subst (λ n. StandGapped tokens (place_end tokens (suc i)) (gapped_from l false row) (place_end tokens n)) later_end
+      let token = token_stands (suc i) within sequence (place_end tokens (i + suc m))
+      (λ l l_is solid. subst (λ n. StandGapped tokens (place_end tokens (suc i)) (gapped_from l false sequence) (place_end tokens n)) later_end
       (tokens_stand m (suc i) l (omega arith) l_is)) in
       let words : is_word last && is_word token.letter ≡ is_parted (text_at tokens i) (text_at tokens (suc i)) =
       ap₂ (λ a b. a && b) last_is (sym (ap first_is_word token.are)) in
-      subst (λ ts. StandGapped tokens (place_end tokens i) (gapped_from last false (row_of ts)) (place_end tokens (i + suc m)))
+      subst (λ ts. StandGapped tokens (place_end tokens i) (gapped_from last false (sequence_of ts)) (place_end tokens (i + suc m)))
       (sym (letters_after-more m i within))
-      (row_stands tokens (place_end tokens i) (place_end tokens (i + suc m)) last (chars (text_at tokens (suc i))) token.others
+      (sequence_stands tokens (place_end tokens i) (place_end tokens (i + suc m)) last (chars (text_at tokens (suc i))) token.others
       (letters_after m (suc i)) token.letter (is_parted (text_at tokens i) (text_at tokens (suc i))) (place_start tokens (suc i))
       token.next token.are words (gap_before i token.letter token.others within token.are) token.stands token.later)

@@ -6,9 +6,9 @@ use Rattle.std.proofs.lemmas.List.{length-take-le}
 use Rattle.std.proofs.lemmas.Str.{IsUtf8-take, encodes-chars, length-le-encodes, scalars-chars}
 use Rattle.lic_places.specs.Places.{Occurs}
 use Rattle.lic_places.proofs.Occurring.{Occurs-left, Occurs-right}
-use Rattle.lic_reverse.specs.Runs.{IsChain, IsRunStart}
+use Rattle.lic_reverse.specs.Streaks.{IsChain, IsStreakStart}
 use Rattle.lic_view.proofs.CountReads.{scalar-head}
-use Rattle.lic_reverse.proofs.RunChains.{letter-forward}
+use Rattle.lic_reverse.proofs.StreakChains.{letter-forward}
 
 -- the letters that bytes spell
 letters-chain : (bytes : List ℕ) (cs : List ℕ) (low place : ℕ) → scalars cs ≡ true → Occurs bytes low (encodes cs) place →
@@ -23,7 +23,7 @@ letters-chain bytes (c ∷ cs) low place all stands = (
 )
 
 -- where so many letters of any kind may be up to a place as it has bytes before it, they begin at the beginning
-pub any-start : (bytes : List ℕ) (count place : ℕ) → IsUtf8 bytes → IsCharBoundary bytes place → place ≤ count → IsRunStart bytes (λ _. true) count place 0
+pub any-start : (bytes : List ℕ) (count place : ℕ) → IsUtf8 bytes → IsCharBoundary bytes place → place ≤ count → IsStreakStart bytes (λ _. true) count place 0
 any-start bytes count place utf8 whole many =
     let front : List ℕ = take place bytes in
     let spelled : encodes (chars front) ≡ front = encodes-chars front (IsUtf8-take bytes place utf8 whole) in

@@ -6,8 +6,8 @@ use Rattle.lic_words.specs.Expressions as words
 use Rattle.lic_words.specs.Expressions.{Expression, IsAtMost, Language, tidy}
 use Rattle.lic_ere.specs.declared.ere.Ere.{Ere}
 use Rattle.lic_ere.specs.declared.ere.Ere.TheVariants as ere
-use Rattle.lic_ere.specs.Trees.{row, tree_of}
-use Rattle.lic_markup.specs.Meaning.{choice_words, row_words, tree_words}
+use Rattle.lic_ere.specs.Trees.{sequence, tree_of}
+use Rattle.lic_markup.specs.Meaning.{choice_words, sequence_words, tree_words}
 use Rattle.lic_norm.specs.Tokens.{TokenValue}
 use Rattle.lic_spans.specs.declared.span.PlaceSpan.{PlaceSpan}
 use Rattle.lic_view.specs.Backward.{IsBack}
@@ -26,11 +26,11 @@ IsAlone e = HasEmptyWordAlone (tree_words (tree_of e))
 
 -- ---- patterns one after another
 
-pub alone-row : (subs : List Ere) → All IsAlone subs → HasEmptyWordAlone (row_words (row (map tree_of subs)))
-alone-row [] all w = (λ is. is, λ is. is)
-alone-row (e ∷ subs) all w = joined (All-head IsAlone e subs all) (alone-row subs (All-tail IsAlone e subs all))
+pub alone-sequence : (subs : List Ere) → All IsAlone subs → HasEmptyWordAlone (sequence_words (sequence (map tree_of subs)))
+alone-sequence [] all w = (λ is. is, λ is. is)
+alone-sequence (e ∷ subs) all w = joined (All-head IsAlone e subs all) (alone-sequence subs (All-tail IsAlone e subs all))
   where
-    joined : IsAlone e → HasEmptyWordAlone (row_words (row (map tree_of subs))) → Language (row_words (row (map tree_of (e ∷ subs)))) w ↔ (w ≡ [])
+    joined : IsAlone e → HasEmptyWordAlone (sequence_words (sequence (map tree_of subs))) → Language (sequence_words (sequence (map tree_of (e ∷ subs)))) w ↔ (w ≡ [])
     joined first more = (
       λ is. is.4 ∙ ap (λ x. x ++ is.1) ((first is.0).0 is.2) ∙ (more is.1).0 is.3,
       λ is. ([], [], (first []).1 refl, (more []).1 refl, is),
@@ -38,12 +38,12 @@ alone-row (e ∷ subs) all w = joined (All-head IsAlone e subs all) (alone-row s
 
 -- ---- any one of the patterns
 
-only-choice : (subs : List Ere) → All IsAlone subs → (w : Word) → Language (choice_words (row (map tree_of subs))) w → w ≡ []
+only-choice : (subs : List Ere) → All IsAlone subs → (w : Word) → Language (choice_words (sequence (map tree_of subs))) w → w ≡ []
 only-choice [] all w none = absurd none
 only-choice (e ∷ subs) all w (inl is) = (All-head IsAlone e subs all w).0 is
 only-choice (e ∷ subs) all w (inr is) = only-choice subs (All-tail IsAlone e subs all) w is
 
-pub alone-choice : (subs : List Ere) → (subs ≡ [] → ⊥) → All IsAlone subs → HasEmptyWordAlone (choice_words (row (map tree_of subs)))
+pub alone-choice : (subs : List Ere) → (subs ≡ [] → ⊥) → All IsAlone subs → HasEmptyWordAlone (choice_words (sequence (map tree_of subs)))
 alone-choice [] some all w = absurd (some refl)
 alone-choice (e ∷ subs) some all w = (only-choice (e ∷ subs) all w, λ is. inl ((All-head IsAlone e subs all w).1 is))
 
@@ -66,7 +66,7 @@ alone-times e min max some alone w = (
 -- ---- patterns
 
 pub alone-Cat : (e : Ere) (subs : Vec Ere Global) → e ≡ ere.Cat subs → All IsAlone subs.items → IsAlone e
-alone-Cat e subs is all = subst (λ t. HasEmptyWordAlone (tree_words t)) (sym (ap tree_of is ∙ tree_of-Cat subs)) (alone-row subs.items all)
+alone-Cat e subs is all = subst (λ t. HasEmptyWordAlone (tree_words t)) (sym (ap tree_of is ∙ tree_of-Cat subs)) (alone-sequence subs.items all)
 
 pub alone-Alt : (e : Ere) (subs : Vec Ere Global) → e ≡ ere.Alt subs → (subs.items ≡ [] → ⊥) → All IsAlone subs.items → IsAlone e
 alone-Alt e subs is some all = subst (λ t. HasEmptyWordAlone (tree_words t)) (sym (ap tree_of is ∙ tree_of-Alt subs)) (alone-choice subs.items some all)

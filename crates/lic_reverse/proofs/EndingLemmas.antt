@@ -8,16 +8,16 @@ use Rattle.std.proofs.lemmas.List.Elements.{Contains-append_cases, Contains-push
 use Rattle.lic_words.specs.Words.{Word, blank}
 use Rattle.lic_words.specs.Expressions.{Language}
 use Rattle.lic_ere.specs.declared.ere.Ere.{Ere}
-use Rattle.lic_ere.specs.Trees.{Tree, char, row, tree_of}
-use Rattle.lic_markup.specs.Meaning.{row_words, tree_words}
+use Rattle.lic_ere.specs.Trees.{Tree, char, sequence, tree_of}
+use Rattle.lic_markup.specs.Meaning.{sequence_words, tree_words}
 use Rattle.lic_reverse.specs.LetterGroups.{EndIn, hash_of, mixed}
 
--- the words of the patterns from one on are one row of letters
+-- the words of the patterns from one on are one sequence of letters
 pub record AreLettersFrom (subs : List Ere) (number hash : ℕ) : Type 0 where
   pub within : number ≤ length subs
-  pub dark : (w : Word) → Language (row_words (row (map tree_of (drop number subs)))) w → (c : ℕ) → Contains w c → ¬ (c ≡ blank)
-  pub long : (w : Word) → Language (row_words (row (map tree_of (drop number subs)))) w → length w + number ≡ length subs
-  pub is : (w : Word) → Language (row_words (row (map tree_of (drop number subs)))) w → hash_of w ≡ hash
+  pub dark : (w : Word) → Language (sequence_words (sequence (map tree_of (drop number subs)))) w → (c : ℕ) → Contains w c → ¬ (c ≡ blank)
+  pub long : (w : Word) → Language (sequence_words (sequence (map tree_of (drop number subs)))) w → length w + number ≡ length subs
+  pub is : (w : Word) → Language (sequence_words (sequence (map tree_of (drop number subs)))) w → hash_of w ≡ hash
 
 pub letters-none : (subs : List Ere) (number : ℕ) → number ≡ length subs → AreLettersFrom subs number 0
 letters-none subs number end = record {
@@ -27,8 +27,8 @@ letters-none subs number end = record {
   is = λ w has. ap hash_of (empty w has);
 }
   where
-    empty : (w : Word) → Language (row_words (row (map tree_of (drop number subs)))) w → w ≡ []
-    empty w has = subst (λ xs. Language (row_words (row (map tree_of xs))) w) (drop_all number subs (omega (arith, end))) has
+    empty : (w : Word) → Language (sequence_words (sequence (map tree_of (drop number subs)))) w → w ≡ []
+    empty w has = subst (λ xs. Language (sequence_words (sequence (map tree_of xs))) w) (drop_all number subs (omega (arith, end))) has
 
     nil-none : (c : ℕ) → Contains {X = ℕ} [] c → ⊥
     nil-none c (i, within, is) = omega (arith, within)
@@ -50,15 +50,15 @@ letters-more subs number next hash letter e before are is letter-is dark = recor
     parted = let e-suc : suc next ≡ number = omega (arith, before) in
         drop-cons subs next e below ∙ ap (λ x. x ∷ drop (suc next) subs) (sym is) ∙ ap (λ k. e ∷ drop k subs) e-suc
 
-    parts : (w : Word) → Language (row_words (row (map tree_of (drop next subs)))) w →
-        (v : Word) × (w ≡ letter ∷ v) × Language (row_words (row (map tree_of (drop number subs)))) v
+    parts : (w : Word) → Language (sequence_words (sequence (map tree_of (drop next subs)))) w →
+        (v : Word) × (w ≡ letter ∷ v) × Language (sequence_words (sequence (map tree_of (drop number subs)))) v
     parts w has =
-        let cat = subst (λ xs. Language (row_words (row (map tree_of xs))) w) parted has in
+        let cat = subst (λ xs. Language (sequence_words (sequence (map tree_of xs))) w) parted has in
         let one = subst (λ t. Language (tree_words t) cat.0) letter-is cat.2 in
         let same : one.0 ≡ letter = eqb-true one.0 letter one.1 in
         (cat.1, cat.4 ∙ ap (λ u. u ++ cat.1) (one.2 ∙ ap (λ d. d ∷ []) same), cat.3)
 
-    by_case : (v : Word) → Language (row_words (row (map tree_of (drop number subs)))) v → (c : ℕ) → Contains (letter ∷ v) c → ¬ (c ≡ blank)
+    by_case : (v : Word) → Language (sequence_words (sequence (map tree_of (drop number subs)))) v → (c : ℕ) → Contains (letter ∷ v) c → ¬ (c ≡ blank)
     by_case v has c among = elim (Contains-append_cases (letter ∷ []) v c among) [
       | inl first ↦ λ same. one-letter (Contains-push_cases [] letter c first) same
       | inr later ↦ are.dark v has c later
@@ -68,20 +68,20 @@ letters-more subs number next hash letter e before are is letter-is dark = recor
         one-letter (inl none) same = absurd (omega (arith, none.1))
         one-letter (inr first) same = dark (first ∙ same)
 
--- a row ends with the words of its last patterns
-row-suffix : (ts us : List Tree) (w : Word) → Language (row_words (row (ts ++ us))) w → (u v : Word) × (w ≡ u ++ v) × Language (row_words (row us)) v
-row-suffix [] us w has = ([], w, refl, has)
-row-suffix (t ∷ ts) us w has =
-    let more = row-suffix ts us has.1 has.3 in
+-- a sequence ends with the words of its last patterns
+sequence-suffix : (ts us : List Tree) (w : Word) → Language (sequence_words (sequence (ts ++ us))) w → (u v : Word) × (w ≡ u ++ v) × Language (sequence_words (sequence us)) v
+sequence-suffix [] us w has = ([], w, refl, has)
+sequence-suffix (t ∷ ts) us w has =
+    let more = sequence-suffix ts us has.1 has.3 in
     (has.0 ++ more.0, more.1, has.4 ∙ ap (λ x. has.0 ++ x) more.2 ∙ sym (append_assoc has.0 more.0 more.1), more.3)
 
 -- so the words end with these letters
 pub letters-end : (subs : List Ere) (number hash : ℕ) → AreLettersFrom subs number hash → number < length subs → length subs ≤ number + 8 →
-    EndIn (Language (row_words (row (map tree_of subs)))) hash
+    EndIn (Language (sequence_words (sequence (map tree_of subs)))) hash
 letters-end subs number hash are some few = λ w has.
     let whole : map tree_of subs ≡ map tree_of (take number subs) ++ map tree_of (drop number subs) =
     ap (map tree_of) (sym (take-append-drop number subs)) ∙ map-append tree_of (take number subs) (drop number subs) in
-    let split = row-suffix (map tree_of (take number subs)) (map tree_of (drop number subs)) w (subst (λ ts. Language (row_words (row ts)) w) whole has) in
+    let split = sequence-suffix (map tree_of (take number subs)) (map tree_of (drop number subs)) w (subst (λ ts. Language (sequence_words (sequence ts)) w) whole has) in
     let size = are.long split.1 split.3 in (
       split.0,
       split.1,

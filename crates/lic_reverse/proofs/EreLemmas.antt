@@ -1,4 +1,4 @@
--- Patterns as trees, rows of them from one on, and choices of one more.
+-- Patterns as trees, sequences of them from one on, and choices of one more.
 use Rattle.std.proofs.Common.{◌≡◌, ◌⊎◌, ◌↔◌, ℕ, suc, ◌+◌, ◌-◌, ◌<◌, ◌≤◌, List, [], ◌∷◌, ◌++◌, Option, Some, None, Result, Ok, Err, IfOk, Vec, Box, Global, true, false, length, map, drop, take, get_or, inl, inr, refl, sym, ap, arith, subst, ◌∙◌}
 use Rattle.std.specs.Prelude.{MatchOption, is_some, zero}
 use Rattle.std.proofs.lemmas.Bool.{true≢false}
@@ -8,10 +8,10 @@ use Rattle.lic_words.specs.Words.{Word, Power}
 use Rattle.lic_words.specs.Expressions.{Expression, Language, one}
 use Rattle.lic_ere.specs.Sets.{Brackets}
 use Rattle.lic_ere.specs.declared.ere.Ere.{Ere, Ere-F, fold-roll-Ere}
-use Rattle.lic_ere.specs.declared.ere.Ere.TheVariants.{Alt, Any, Cat as Row, Char, Empty, Repeat, Set, rolls-Alt, rolls-Any, rolls-Cat, rolls-Char, rolls-Empty, rolls-Repeat, rolls-Set}
-use Rattle.lic_ere.specs.Trees.{Tree, node_tree, row, tree_of}
+use Rattle.lic_ere.specs.declared.ere.Ere.TheVariants.{Alt, Any, Cat as Sequence, Char, Empty, Repeat, Set, rolls-Alt, rolls-Any, rolls-Cat, rolls-Char, rolls-Empty, rolls-Repeat, rolls-Set}
+use Rattle.lic_ere.specs.Trees.{Tree, node_tree, sequence, tree_of}
 use Rattle.lic_ere.specs.Trees as trees
-use Rattle.lic_markup.specs.Meaning.{choice_words, row_words, tree_words}
+use Rattle.lic_markup.specs.Meaning.{choice_words, sequence_words, tree_words}
 use Rattle.lic_norm.specs.Tokens.{TokenValue}
 use Rattle.lic_spans.specs.declared.span.PlaceSpan.{PlaceSpan}
 use Rattle.lic_reverse.specs.declared.ways.Ways.{Ways}
@@ -33,72 +33,72 @@ use Rattle.lic_view.specs.declared.sets.keep.Keep.{Keep}
 pub tree_of-Empty : tree_of Empty ≡ trees.empty
 tree_of-Empty = ap tree_of (sym rolls-Empty) ∙ fold-roll-Ere Tree node_tree Ere-F.Empty
 
-pub tree_of-Cat : (subs : Vec Ere Global) → tree_of (Row subs) ≡ trees.cat (row (map tree_of subs.items))
+pub tree_of-Cat : (subs : Vec Ere Global) → tree_of (Sequence subs) ≡ trees.cat (sequence (map tree_of subs.items))
 tree_of-Cat subs = ap tree_of (sym (rolls-Cat subs)) ∙ fold-roll-Ere Tree node_tree (Ere-F.Cat subs)
 
-pub tree_of-Alt : (subs : Vec Ere Global) → tree_of (Alt subs) ≡ trees.alt (row (map tree_of subs.items))
+pub tree_of-Alt : (subs : Vec Ere Global) → tree_of (Alt subs) ≡ trees.alt (sequence (map tree_of subs.items))
 tree_of-Alt subs = ap tree_of (sym (rolls-Alt subs)) ∙ fold-roll-Ere Tree node_tree (Ere-F.Alt subs)
 
 pub tree_of-Repeat : (body : Box Ere Global) (min : ℕ) (max : Option ℕ) → tree_of (Repeat body min max) ≡ trees.repeat (tree_of body.value) min max
 tree_of-Repeat body min max = ap tree_of (sym (rolls-Repeat body min max)) ∙ fold-roll-Ere Tree node_tree (Ere-F.Repeat body min max)
 
--- ---- rows
+-- ---- sequences
 
 -- one pattern more in front
-pub row-more : (keep : Keep) (tokens : List TokenValue) (Ends : Taken → ℕ → ℕ → Type 0) (subs : List Ere) (i n : ℕ) (d : Ere) (xs ys : Taken → List PlaceSpan) →
+pub sequence-more : (keep : Keep) (tokens : List TokenValue) (Ends : Taken → ℕ → ℕ → Type 0) (subs : List Ere) (i n : ℕ) (d : Ere) (xs ys : Taken → List PlaceSpan) →
     n ≡ i + 1 → i < length subs →
-    IsTidyBackFrom keep tokens (Language (row_words (row (map tree_of (drop n subs))))) Ends xs →
+    IsTidyBackFrom keep tokens (Language (sequence_words (sequence (map tree_of (drop n subs))))) Ends xs →
     IsTidyBack keep tokens (Language (tree_words (tree_of (get_or subs i d)))) xs ys →
-    IsTidyBackFrom keep tokens (Language (row_words (row (map tree_of (drop i subs))))) Ends ys
-row-more keep tokens Ends subs i n d xs ys next below back first =
-    subst (λ s. IsTidyBackFrom keep tokens (Language (row_words (row (map tree_of s)))) Ends ys) (sym parted)
-    (tidy-after keep tokens (Language (row_words (row (map tree_of (drop n subs))))) (Language (tree_words (tree_of (get_or subs i d)))) Ends xs ys back first)
+    IsTidyBackFrom keep tokens (Language (sequence_words (sequence (map tree_of (drop i subs))))) Ends ys
+sequence-more keep tokens Ends subs i n d xs ys next below back first =
+    subst (λ s. IsTidyBackFrom keep tokens (Language (sequence_words (sequence (map tree_of s)))) Ends ys) (sym parted)
+    (tidy-after keep tokens (Language (sequence_words (sequence (map tree_of (drop n subs))))) (Language (tree_words (tree_of (get_or subs i d)))) Ends xs ys back first)
   where
     parted : drop i subs ≡ get_or subs i d ∷ drop n subs
     parted = let e : suc i ≡ n = omega (arith, next) in drop-cons subs i d below ∙ ap (λ k. get_or subs i d ∷ drop k subs) e
 
 -- the same of an item of the list
-pub row-item : (keep : Keep) (tokens : List TokenValue) (Ends : Taken → ℕ → ℕ → Type 0) (subs : List Ere) (i n : ℕ) (e : Ere) (xs ys : Taken → List PlaceSpan) →
+pub sequence-item : (keep : Keep) (tokens : List TokenValue) (Ends : Taken → ℕ → ℕ → Type 0) (subs : List Ere) (i n : ℕ) (e : Ere) (xs ys : Taken → List PlaceSpan) →
     n ≡ i + 1 → i < length subs → e ≡ get_or subs i e →
-    IsTidyBackFrom keep tokens (Language (row_words (row (map tree_of (drop n subs))))) Ends xs →
+    IsTidyBackFrom keep tokens (Language (sequence_words (sequence (map tree_of (drop n subs))))) Ends xs →
     IsTidyBack keep tokens (Language (tree_words (tree_of e))) xs ys →
-    IsTidyBackFrom keep tokens (Language (row_words (row (map tree_of (drop i subs))))) Ends ys
-row-item keep tokens Ends subs i n e xs ys next below is back first =
-    row-more keep tokens Ends subs i n e xs ys next below back (subst (λ x. IsTidyBack keep tokens (Language (tree_words (tree_of x))) xs ys) is first)
+    IsTidyBackFrom keep tokens (Language (sequence_words (sequence (map tree_of (drop i subs))))) Ends ys
+sequence-item keep tokens Ends subs i n e xs ys next below is back first =
+    sequence-more keep tokens Ends subs i n e xs ys next below back (subst (λ x. IsTidyBack keep tokens (Language (tree_words (tree_of x))) xs ys) is first)
 
 -- ---- choices
 
 choice-more : (ts : List Tree) (t : Tree) (w : Word) →
-    (Language (choice_words (row ts)) w ⊎ Language (tree_words t) w) ↔ Language (choice_words (row (ts ++ t ∷ []))) w
+    (Language (choice_words (sequence ts)) w ⊎ Language (tree_words t) w) ↔ Language (choice_words (sequence (ts ++ t ∷ []))) w
 choice-more [] t w = (λ h. elim h [ inl none ↦ absurd none | inr is ↦ inl is ], λ h. elim h [ inl is ↦ inr is | inr none ↦ absurd none ])
 choice-more (s ∷ ts) t w = (to (choice-more ts t w).0, from (choice-more ts t w).1)
   where
-    to : ((Language (choice_words (row ts)) w ⊎ Language (tree_words t) w) → Language (choice_words (row (ts ++ t ∷ []))) w) →
-        ((Language (tree_words s) w ⊎ Language (choice_words (row ts)) w) ⊎ Language (tree_words t) w) →
-        Language (tree_words s) w ⊎ Language (choice_words (row (ts ++ t ∷ []))) w
+    to : ((Language (choice_words (sequence ts)) w ⊎ Language (tree_words t) w) → Language (choice_words (sequence (ts ++ t ∷ []))) w) →
+        ((Language (tree_words s) w ⊎ Language (choice_words (sequence ts)) w) ⊎ Language (tree_words t) w) →
+        Language (tree_words s) w ⊎ Language (choice_words (sequence (ts ++ t ∷ []))) w
     to more (inl (inl is)) = inl is
     to more (inl (inr is)) = inr (more (inl is))
     to more (inr is) = inr (more (inr is))
 
-    from : (Language (choice_words (row (ts ++ t ∷ []))) w → Language (choice_words (row ts)) w ⊎ Language (tree_words t) w) →
-        Language (tree_words s) w ⊎ Language (choice_words (row (ts ++ t ∷ []))) w →
-        (Language (tree_words s) w ⊎ Language (choice_words (row ts)) w) ⊎ Language (tree_words t) w
+    from : (Language (choice_words (sequence (ts ++ t ∷ []))) w → Language (choice_words (sequence ts)) w ⊎ Language (tree_words t) w) →
+        Language (tree_words s) w ⊎ Language (choice_words (sequence (ts ++ t ∷ []))) w →
+        (Language (tree_words s) w ⊎ Language (choice_words (sequence ts)) w) ⊎ Language (tree_words t) w
     from more (inl is) = inl (inl is)
     from more (inr is) = elim (more is) [ inl has ↦ inl (inr has) | inr has ↦ inr has ]
 
 -- one pattern more to choose from
 pub choice-also : (keep : Keep) (tokens : List TokenValue) (Ends : Taken → ℕ → ℕ → Type 0) (subs : List Ere) (i : ℕ) (d : Ere) (xs ys zs : Taken → List PlaceSpan) →
     i < length subs → ((s : Taken) → zs s ≡ xs s ++ ys s) →
-    IsTidyBackFrom keep tokens (Language (choice_words (row (map tree_of (take i subs))))) Ends xs →
+    IsTidyBackFrom keep tokens (Language (choice_words (sequence (map tree_of (take i subs))))) Ends xs →
     IsTidyBackFrom keep tokens (Language (tree_words (tree_of (get_or subs i d)))) Ends ys →
-    IsTidyBackFrom keep tokens (Language (choice_words (row (map tree_of (take (i + 1) subs))))) Ends zs
+    IsTidyBackFrom keep tokens (Language (choice_words (sequence (map tree_of (take (i + 1) subs))))) Ends zs
 choice-also keep tokens Ends subs i d xs ys zs below joined back other =
-    subst (λ s. IsTidyBackFrom keep tokens (Language (choice_words (row s))) Ends zs) (sym parted)
-    (tidy-same keep tokens (λ w. Language (choice_words (row (map tree_of (take i subs)))) w ⊎ Language (tree_words (tree_of (get_or subs i d))) w)
-    (Language (choice_words (row (map tree_of (take i subs) ++ tree_of (get_or subs i d) ∷ [])))) Ends zs
+    subst (λ s. IsTidyBackFrom keep tokens (Language (choice_words (sequence s))) Ends zs) (sym parted)
+    (tidy-same keep tokens (λ w. Language (choice_words (sequence (map tree_of (take i subs)))) w ⊎ Language (tree_words (tree_of (get_or subs i d))) w)
+    (Language (choice_words (sequence (map tree_of (take i subs) ++ tree_of (get_or subs i d) ∷ [])))) Ends zs
     (λ w. (choice-more (map tree_of (take i subs)) (tree_of (get_or subs i d)) w).0)
     (λ w. (choice-more (map tree_of (take i subs)) (tree_of (get_or subs i d)) w).1)
-    (tidy-either keep tokens (Language (choice_words (row (map tree_of (take i subs))))) (Language (tree_words (tree_of (get_or subs i d)))) Ends xs ys zs joined back other))
+    (tidy-either keep tokens (Language (choice_words (sequence (map tree_of (take i subs))))) (Language (tree_words (tree_of (get_or subs i d)))) Ends xs ys zs joined back other))
   where
     parted : map tree_of (take (i + 1) subs) ≡ map tree_of (take i subs) ++ tree_of (get_or subs i d) ∷ []
     parted = ap (map tree_of) (take_more subs i d below) ∙ map-append tree_of (take i subs) (get_or subs i d ∷ [])
@@ -106,9 +106,9 @@ choice-also keep tokens Ends subs i d xs ys zs below joined back other =
 -- the same of an item of the list
 pub choice-item : (keep : Keep) (tokens : List TokenValue) (Ends : Taken → ℕ → ℕ → Type 0) (subs : List Ere) (i : ℕ) (e : Ere) (xs ys zs : Taken → List PlaceSpan) →
     i < length subs → e ≡ get_or subs i e → ((s : Taken) → zs s ≡ xs s ++ ys s) →
-    IsTidyBackFrom keep tokens (Language (choice_words (row (map tree_of (take i subs))))) Ends xs →
+    IsTidyBackFrom keep tokens (Language (choice_words (sequence (map tree_of (take i subs))))) Ends xs →
     IsTidyBackFrom keep tokens (Language (tree_words (tree_of e))) Ends ys →
-    IsTidyBackFrom keep tokens (Language (choice_words (row (map tree_of (take (i + 1) subs))))) Ends zs
+    IsTidyBackFrom keep tokens (Language (choice_words (sequence (map tree_of (take (i + 1) subs))))) Ends zs
 choice-item keep tokens Ends subs i e xs ys zs below is joined back other =
     choice-also keep tokens Ends subs i e xs ys zs below joined back
     (subst (λ x. IsTidyBackFrom keep tokens (Language (tree_words (tree_of x))) Ends ys) is other)
@@ -126,13 +126,13 @@ again subs i j x y below next is-x is-y same = (
 -- a pattern that is the one before it once more adds no word
 pub choice-again : (keep : Keep) (tokens : List TokenValue) (Ends : Taken → ℕ → ℕ → Type 0) (subs : List Ere) (i : ℕ) (d : Ere) (xs : Taken → List PlaceSpan) →
     i < length subs → IsRepeated subs i →
-    IsTidyBackFrom keep tokens (Language (choice_words (row (map tree_of (take i subs))))) Ends xs →
-    IsTidyBackFrom keep tokens (Language (choice_words (row (map tree_of (take (i + 1) subs))))) Ends xs
+    IsTidyBackFrom keep tokens (Language (choice_words (sequence (map tree_of (take i subs))))) Ends xs →
+    IsTidyBackFrom keep tokens (Language (choice_words (sequence (map tree_of (take (i + 1) subs))))) Ends xs
 choice-again keep tokens Ends subs i d xs below (j, next, same) =
-    subst (λ s. IsTidyBackFrom keep tokens (Language (choice_words (row (map tree_of (take i subs))))) Ends xs →
-    IsTidyBackFrom keep tokens (Language (choice_words (row s))) Ends xs) (sym parted)
-    (tidy-same keep tokens (Language (choice_words (row (map tree_of (take i subs)))))
-    (Language (choice_words (row (map tree_of (take i subs) ++ tree_of (get_or subs i d) ∷ [])))) Ends xs
+    subst (λ s. IsTidyBackFrom keep tokens (Language (choice_words (sequence (map tree_of (take i subs))))) Ends xs →
+    IsTidyBackFrom keep tokens (Language (choice_words (sequence s))) Ends xs) (sym parted)
+    (tidy-same keep tokens (Language (choice_words (sequence (map tree_of (take i subs)))))
+    (Language (choice_words (sequence (map tree_of (take i subs) ++ tree_of (get_or subs i d) ∷ [])))) Ends xs
     (λ w has. (choice-more (map tree_of (take i subs)) (tree_of (get_or subs i d)) w).0 (inl has))
     known)
   where
@@ -149,36 +149,36 @@ choice-again keep tokens Ends subs i d xs below (j, next, same) =
     before = ap (λ n. map tree_of (take n subs)) next-of ∙ ap (map tree_of) (take_more subs j d j-below)
         ∙ map-append tree_of (take j subs) (get_or subs j d ∷ [])
 
-    known : (w : Word) → Language (choice_words (row (map tree_of (take i subs) ++ tree_of (get_or subs i d) ∷ []))) w →
-        Language (choice_words (row (map tree_of (take i subs)))) w
+    known : (w : Word) → Language (choice_words (sequence (map tree_of (take i subs) ++ tree_of (get_or subs i d) ∷ []))) w →
+        Language (choice_words (sequence (map tree_of (take i subs)))) w
     known w has = elim ((choice-more (map tree_of (take i subs)) (tree_of (get_or subs i d)) w).1 has) [
       | inl is ↦ is
-      | inr is ↦ subst (λ s. Language (choice_words (row s)) w) (sym before)
+      | inr is ↦ subst (λ s. Language (choice_words (sequence s)) w) (sym before)
           ((choice-more (map tree_of (take j subs)) (tree_of (get_or subs j d)) w).0
           (inr (subst (λ t. Language (tree_words t) w) (sym (same d)) is)))
     ]
 
 -- from the end on there is none
-pub row-none : (keep : Keep) (tokens : List TokenValue) (subs : List Ere) (i : ℕ) (xs : Taken → List PlaceSpan) → length subs ≤ i → ((s : Taken) → ArePlaced tokens (xs s)) →
-    IsTidyBack keep tokens (Language (row_words (row (map tree_of (drop i subs))))) xs xs
-row-none keep tokens subs i xs all placed =
-    subst (λ s. IsTidyBack keep tokens (Language (row_words (row (map tree_of s)))) xs xs) (sym (drop_all i subs all)) (tidy-stay keep tokens xs placed)
+pub sequence-none : (keep : Keep) (tokens : List TokenValue) (subs : List Ere) (i : ℕ) (xs : Taken → List PlaceSpan) → length subs ≤ i → ((s : Taken) → ArePlaced tokens (xs s)) →
+    IsTidyBack keep tokens (Language (sequence_words (sequence (map tree_of (drop i subs))))) xs xs
+sequence-none keep tokens subs i xs all placed =
+    subst (λ s. IsTidyBack keep tokens (Language (sequence_words (sequence (map tree_of s)))) xs xs) (sym (drop_all i subs all)) (tidy-stay keep tokens xs placed)
 
 -- from the first on there are all
-pub row-all : (keep : Keep) (tokens : List TokenValue) (Ends : Taken → ℕ → ℕ → Type 0) (subs : List Ere) (i : ℕ) (xs : Taken → List PlaceSpan) → i ≡ 0 →
-    IsTidyBackFrom keep tokens (Language (row_words (row (map tree_of (drop i subs))))) Ends xs →
-    IsTidyBackFrom keep tokens (Language (row_words (row (map tree_of subs)))) Ends xs
-row-all keep tokens Ends subs i xs first back = subst (λ n. IsTidyBackFrom keep tokens (Language (row_words (row (map tree_of (drop n subs))))) Ends xs) first back
+pub sequence-all : (keep : Keep) (tokens : List TokenValue) (Ends : Taken → ℕ → ℕ → Type 0) (subs : List Ere) (i : ℕ) (xs : Taken → List PlaceSpan) → i ≡ 0 →
+    IsTidyBackFrom keep tokens (Language (sequence_words (sequence (map tree_of (drop i subs))))) Ends xs →
+    IsTidyBackFrom keep tokens (Language (sequence_words (sequence (map tree_of subs)))) Ends xs
+sequence-all keep tokens Ends subs i xs first back = subst (λ n. IsTidyBackFrom keep tokens (Language (sequence_words (sequence (map tree_of (drop n subs))))) Ends xs) first back
 
 -- nothing to choose from
 pub choice-none : (keep : Keep) (tokens : List TokenValue) (Ends : Taken → ℕ → ℕ → Type 0) (subs : List Ere) (xs : Taken → List PlaceSpan) → ((s : Taken) → xs s ≡ []) →
-    IsTidyBackFrom keep tokens (Language (choice_words (row (map tree_of (take 0 subs))))) Ends xs
-choice-none keep tokens Ends subs xs none = tidy-none keep tokens (Language (choice_words (row (map tree_of (take 0 subs))))) Ends xs none (λ w is. is)
+    IsTidyBackFrom keep tokens (Language (choice_words (sequence (map tree_of (take 0 subs))))) Ends xs
+choice-none keep tokens Ends subs xs none = tidy-none keep tokens (Language (choice_words (sequence (map tree_of (take 0 subs))))) Ends xs none (λ w is. is)
 
 pub choice-all : (keep : Keep) (tokens : List TokenValue) (Ends : Taken → ℕ → ℕ → Type 0) (subs : List Ere) (i : ℕ) (xs : Taken → List PlaceSpan) → length subs ≤ i →
-    IsTidyBackFrom keep tokens (Language (choice_words (row (map tree_of (take i subs))))) Ends xs →
-    IsTidyBackFrom keep tokens (Language (choice_words (row (map tree_of subs)))) Ends xs
-choice-all keep tokens Ends subs i xs all back = subst (λ s. IsTidyBackFrom keep tokens (Language (choice_words (row (map tree_of s)))) Ends xs) (take_all i subs all) back
+    IsTidyBackFrom keep tokens (Language (choice_words (sequence (map tree_of (take i subs))))) Ends xs →
+    IsTidyBackFrom keep tokens (Language (choice_words (sequence (map tree_of subs)))) Ends xs
+choice-all keep tokens Ends subs i xs all back = subst (λ s. IsTidyBackFrom keep tokens (Language (choice_words (sequence (map tree_of s)))) Ends xs) (take_all i subs all) back
 
 -- the same lists once more as those to go back from
 pub tidy-copied : (keep : Keep) (tokens : List TokenValue) (P : Word → Type 0) (xs copied ys : Taken → List PlaceSpan) → ((s : Taken) → copied s ≡ xs s) →
@@ -355,22 +355,22 @@ reached-pruned keep tokens B xs found front copied led next more all fresh i n o
 -- patterns in a row that are the one before once more add no word
 pub choice-skip : (keep : Keep) (tokens : List TokenValue) (Ends : Taken → ℕ → ℕ → Type 0) (subs : List Ere) (i : ℕ) (d : Ere) (xs : Taken → List PlaceSpan) (more : ℕ) →
     i + more ≤ length subs → ((k : ℕ) → i ≤ k → k < i + more → IsRepeated subs k) →
-    IsTidyBackFrom keep tokens (Language (choice_words (row (map tree_of (take i subs))))) Ends xs →
-    IsTidyBackFrom keep tokens (Language (choice_words (row (map tree_of (take (i + more) subs))))) Ends xs
+    IsTidyBackFrom keep tokens (Language (choice_words (sequence (map tree_of (take i subs))))) Ends xs →
+    IsTidyBackFrom keep tokens (Language (choice_words (sequence (map tree_of (take (i + more) subs))))) Ends xs
 choice-skip keep tokens Ends subs i d xs zero within repeated back =
     let same : i ≡ i + 0 = omega arith in
-    subst (λ n. IsTidyBackFrom keep tokens (Language (choice_words (row (map tree_of (take n subs))))) Ends xs) same back
+    subst (λ n. IsTidyBackFrom keep tokens (Language (choice_words (sequence (map tree_of (take n subs))))) Ends xs) same back
 choice-skip keep tokens Ends subs i d xs (suc more) within repeated back =
     let next : i + more + 1 ≡ i + suc more = omega arith in
-    subst (λ n. IsTidyBackFrom keep tokens (Language (choice_words (row (map tree_of (take n subs))))) Ends xs) next
+    subst (λ n. IsTidyBackFrom keep tokens (Language (choice_words (sequence (map tree_of (take n subs))))) Ends xs) next
     (choice-again keep tokens Ends subs (i + more) d xs (omega (arith, within)) (repeated (i + more) (omega arith) (omega arith))
     (choice-skip keep tokens Ends subs i d xs more (omega (arith, within)) (λ k from to. repeated k from (omega (arith, to))) back))
 
 pub choice-to : (keep : Keep) (tokens : List TokenValue) (Ends : Taken → ℕ → ℕ → Type 0) (subs : List Ere) (i j : ℕ) (d : Ere) (xs : Taken → List PlaceSpan) →
     i ≤ j → j ≤ length subs → ((k : ℕ) → i ≤ k → k < j → IsRepeated subs k) →
-    IsTidyBackFrom keep tokens (Language (choice_words (row (map tree_of (take i subs))))) Ends xs →
-    IsTidyBackFrom keep tokens (Language (choice_words (row (map tree_of (take j subs))))) Ends xs
+    IsTidyBackFrom keep tokens (Language (choice_words (sequence (map tree_of (take i subs))))) Ends xs →
+    IsTidyBackFrom keep tokens (Language (choice_words (sequence (map tree_of (take j subs))))) Ends xs
 choice-to keep tokens Ends subs i j d xs order within repeated back =
     let same : i + (j - i) ≡ j = omega (arith, order) in
-    subst (λ n. IsTidyBackFrom keep tokens (Language (choice_words (row (map tree_of (take n subs))))) Ends xs) same
+    subst (λ n. IsTidyBackFrom keep tokens (Language (choice_words (sequence (map tree_of (take n subs))))) Ends xs) same
     (choice-skip keep tokens Ends subs i d xs (j - i) (omega (arith, order, within)) (λ k from to. repeated k from (omega (arith, to, order))) back)

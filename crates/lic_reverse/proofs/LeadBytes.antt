@@ -5,7 +5,7 @@ use Rattle.std.proofs.Math.Nat.{div-lt_iff_lt-mul}
 use Rattle.lic_view.specs.LettersBefore.{IsLetterBefore}
 use Rattle.lic_view.proofs.CountReads.{follows-byte, stands-follows}
 use Rattle.lic_view.proofs.LastLetters.{letter-within}
-use Rattle.lic_reverse.proofs.RunChains.{letter-forward}
+use Rattle.lic_reverse.proofs.StreakChains.{letter-forward}
 
 -- so many bytes has a letter that begins with this one
 pub record IsLong (first long : ℕ) : Type 0 where

@@ -137,7 +137,7 @@ empty-more lists new v none is empty j x has = by_case (cases_lt j (length lists
 pub empty-none : (lists : List (Vec Entry Global)) → AreEmpty lists → HasNone lists
 empty-none lists empty hash span has = empty (number_of hash (length lists)) (record { hash = hash; span = span }) has
 
--- ---- the last letter of a row
+-- ---- the last letter of a sequence
 
 last-parted : (v : Word) → 0 < length v → (u : Word) × (c : ℕ) × (v ≡ u ++ c ∷ [])
 last-parted [] some = absurd (omega (arith, some))
@@ -148,55 +148,55 @@ hash-last : (hash : ℕ) (u : Word) (c : ℕ) → hash_before hash (u ++ c ∷ [
 hash-last hash [] c = refl
 hash-last hash (d ∷ u) c = ap (λ x. mixed x d) (hash-last hash u c)
 
--- ---- the rows before a place
+-- ---- the sequences before a place
 
--- the letters of a row that were not looked at yet
+-- the letters of a sequence that were not looked at yet
 pub record IsPending (tokens : List TokenValue) (first hash k : ℕ) (v : Word) (p : ℕ) : Type 0 where
-  pub row : Word
-  pub dark : (c : ℕ) → Contains row c → ¬ (c ≡ blank)
-  pub some : 0 < length row
-  pub few : length row + k ≤ 8
-  pub reads : Reads tokens p row first
-  pub is : hash_of v ≡ hash_before hash row
+  pub sequence : Word
+  pub dark : (c : ℕ) → Contains sequence c → ¬ (c ≡ blank)
+  pub some : 0 < length sequence
+  pub few : length sequence + k ≤ 8
+  pub reads : Reads tokens p sequence first
+  pub is : hash_of v ≡ hash_before hash sequence
 
--- the place was added for each row of up to so many letters
-pub record AddsRows (tokens : List TokenValue) (one : PlaceSpan) (place first hash k : ℕ) (old new : List (Vec Entry Global)) : Type 0 where
+-- the place was added for each sequence of up to so many letters
+pub record AddsSequences (tokens : List TokenValue) (one : PlaceSpan) (place first hash k : ℕ) (old new : List (Vec Entry Global)) : Type 0 where
   pub same : length new ≡ length old
   pub kept : (h : ℕ) (span : PlaceSpan) → HasEntry old h span → HasEntry new h span
   pub sound : (h : ℕ) (span : PlaceSpan) → HasEntry new h span → HasEntry old h span ⊎ (span ≡ one)
-  pub rows : (v : Word) (p : ℕ) → AreLastLetters v → Reads tokens p v place → HasEntry new (hash_of v) one ⊎ IsPending tokens first hash k v p
+  pub sequences : (v : Word) (p : ℕ) → AreLastLetters v → Reads tokens p v place → HasEntry new (hash_of v) one ⊎ IsPending tokens first hash k v p
 
-pub rows-none : (tokens : List TokenValue) (one : PlaceSpan) (place : ℕ) (old : List (Vec Entry Global)) → AddsRows tokens one place place 0 0 old old
-rows-none tokens one place old = record {
+pub sequences-none : (tokens : List TokenValue) (one : PlaceSpan) (place : ℕ) (old : List (Vec Entry Global)) → AddsSequences tokens one place place 0 0 old old
+sequences-none tokens one place old = record {
   same = refl;
   kept = λ h span has. has;
   sound = λ h span has. inl has;
-  rows = λ v p are reads. inr (record { row = v; dark = are.dark; some = are.some; few = omega (arith, are.few); reads = reads; is = refl });
+  sequences = λ v p are reads. inr (record { sequence = v; dark = are.dark; some = are.some; few = omega (arith, are.few); reads = reads; is = refl });
 }
 
 -- the last letter that was not looked at is the one before the place
 module _ (tokens : List TokenValue) (first hash k : ℕ) (v : Word) (p : ℕ) (pending : IsPending tokens first hash k v p) where
-  pub pending-letter : (u : Word) × (c : ℕ) × (r : ℕ) × (pending.row ≡ u ++ c ∷ []) × Reads tokens p u r × ¬ (c ≡ blank) × IsLetterBefore (spelling_of tokens) first r c
+  pub pending-letter : (u : Word) × (c : ℕ) × (r : ℕ) × (pending.sequence ≡ u ++ c ∷ []) × Reads tokens p u r × ¬ (c ≡ blank) × IsLetterBefore (spelling_of tokens) first r c
   pending-letter =
-      let last = last-parted pending.row pending.some in
+      let last = last-parted pending.sequence pending.some in
       let parted = reads-parted tokens last.0 (last.1 ∷ []) p first (subst (λ x. Reads tokens p x first) last.2 pending.reads) in
       let dark = pending.dark last.1 (subst (λ x. Contains x last.1) (sym last.2) (Contains-push last.0 last.1)) in
       (last.0, last.1, parted.0, last.2, parted.1, dark, letter-read tokens parted.0 last.1 first dark parted.2)
 
 -- one letter more is looked at
-pub rows-more : (tokens : List TokenValue) (one : PlaceSpan) (place first hash k start letter i : ℕ) (old lists : List (Vec Entry Global)) (was now : Vec Entry Global) (e : Entry) →
-    AreTexts tokens → AddsRows tokens one place first hash k old lists → IsLetterBefore (spelling_of tokens) first start letter →
+pub sequences-more : (tokens : List TokenValue) (one : PlaceSpan) (place first hash k start letter i : ℕ) (old lists : List (Vec Entry Global)) (was now : Vec Entry Global) (e : Entry) →
+    AreTexts tokens → AddsSequences tokens one place first hash k old lists → IsLetterBefore (spelling_of tokens) first start letter →
     i < length lists → was ≡ get_or lists i was → now.items ≡ was.items ++ e ∷ [] → e ≡ record { hash = mixed hash letter; span = one } →
     i ≡ number_of (mixed hash letter) (length lists) →
-    AddsRows tokens one place start (mixed hash letter) (k + 1) old (set lists i now)
-rows-more tokens one place first hash k start letter i old lists was now e texts adds before within is pushed entry number = record {
+    AddsSequences tokens one place start (mixed hash letter) (k + 1) old (set lists i now)
+sequences-more tokens one place first hash k start letter i old lists was now e texts adds before within is pushed entry number = record {
   same = length-set lists i now ∙ adds.same;
   kept = λ h span has. entry-kept lists i was now e within is pushed h span (adds.kept h span has);
   sound = λ h span has. elim (entry-sound lists i was now e within is pushed h span has) [
     | inl known ↦ adds.sound h span known
     | inr new ↦ inr (new ∙ ap (λ (x : Entry). x.span) entry)
   ];
-  rows = λ v p are reads. elim (adds.rows v p are reads) [
+  sequences = λ v p are reads. elim (adds.sequences v p are reads) [
     | inl has ↦ inl (entry-kept lists i was now e within is pushed (hash_of v) one has)
     | inr pending ↦ step v p pending
   ];
@@ -204,9 +204,9 @@ rows-more tokens one place first hash k start letter i old lists was now e texts
   where
     step : (v : Word) (p : ℕ) → IsPending tokens first hash k v p →
         HasEntry (set lists i now) (hash_of v) one ⊎ IsPending tokens start (mixed hash letter) (k + 1) v p
-    step v p pending = by_row last.0 refl
+    step v p pending = by_sequence last.0 refl
       where
-        last : (u : Word) × (c : ℕ) × (r : ℕ) × (pending.row ≡ u ++ c ∷ []) × Reads tokens p u r × ¬ (c ≡ blank) × IsLetterBefore (spelling_of tokens) first r c
+        last : (u : Word) × (c : ℕ) × (r : ℕ) × (pending.sequence ≡ u ++ c ∷ []) × Reads tokens p u r × ¬ (c ≡ blank) × IsLetterBefore (spelling_of tokens) first r c
         last = pending-letter tokens first hash k v p pending
 
         one_letter : (last.2 ≡ start) × (last.1 ≡ letter)
@@ -215,19 +215,19 @@ rows-more tokens one place first hash k start letter i old lists was now e texts
         hash-is : hash_of v ≡ hash_before (mixed hash letter) last.0
         hash-is = pending.is ∙ ap (hash_before hash) last.3 ∙ hash-last hash last.0 last.1 ∙ ap (λ c. hash_before (mixed hash c) last.0) one_letter.1
 
-        long : length pending.row ≡ length last.0 + 1
+        long : length pending.sequence ≡ length last.0 + 1
         long = ap length last.3 ∙ length-last last.0 last.1
           where
             length-last : (u : Word) (c : ℕ) → length (u ++ c ∷ []) ≡ length u + 1
             length-last [] c = refl
             length-last (d ∷ u) c = let more = length-last u c in omega (arith, more)
 
-        by_row : (u : Word) → u ≡ last.0 → HasEntry (set lists i now) (hash_of v) one ⊎ IsPending tokens start (mixed hash letter) (k + 1) v p
-        by_row [] none =
+        by_sequence : (u : Word) → u ≡ last.0 → HasEntry (set lists i now) (hash_of v) one ⊎ IsPending tokens start (mixed hash letter) (k + 1) v p
+        by_sequence [] none =
             inl (subst (λ h. HasEntry (set lists i now) h one) (sym (hash-is ∙ ap (hash_before (mixed hash letter)) (sym none)))
             (entry-new lists i was now e within is pushed (mixed hash letter) one entry number))
-        by_row (d ∷ u) more = inr (record {
-          row = last.0;
+        by_sequence (d ∷ u) more = inr (record {
+          sequence = last.0;
           dark = λ c has. pending.dark c (subst (λ x. Contains x c) (sym last.3) (Contains-append_left last.0 (last.1 ∷ []) c has));
           some = let size = ap length more in omega (arith, size);
           few = omega (arith, pending.few, long);
@@ -235,17 +235,17 @@ rows-more tokens one place first hash k start letter i old lists was now e texts
           is = hash-is;
         })
 
--- all rows before the place
-pub rows-all : (tokens : List TokenValue) (one : PlaceSpan) (place first hash k : ℕ) (old new : List (Vec Entry Global)) →
-    AddsRows tokens one place first hash k old new → Reaches tokens (one ∷ []) place one.last →
+-- all sequences before the place
+pub sequences-all : (tokens : List TokenValue) (one : PlaceSpan) (place first hash k : ℕ) (old new : List (Vec Entry Global)) →
+    AddsSequences tokens one place first hash k old new → Reaches tokens (one ∷ []) place one.last →
     ((v : Word) (p : ℕ) → IsPending tokens first hash k v p → ⊥) →
     AddsPlaces tokens (λ s. s ≡ one) (λ q last. (q ≡ place) × (last ≡ one.last)) old new
-rows-all tokens one place first hash k old new adds reaches none = record {
+sequences-all tokens one place first hash k old new adds reaches none = record {
   same = adds.same;
   kept = adds.kept;
   sound = adds.sound;
   complete = λ w p q last are reads ends.
-      let has : HasEntry new (hash_of w) one = elim (adds.rows w p are (subst (λ x. Reads tokens p w x) ends.0 reads)) [
+      let has : HasEntry new (hash_of w) one = elim (adds.sequences w p are (subst (λ x. Reads tokens p w x) ends.0 reads)) [
         | inl is ↦ is
         | inr pending ↦ absurd (none w p pending)
       ] in

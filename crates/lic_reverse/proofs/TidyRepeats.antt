@@ -1,4 +1,4 @@
--- Going back over repetitions, over rows of patterns and over choices.
+-- Going back over repetitions, over sequences of patterns and over choices.
 use Rattle.std.proofs.Common.{ℕ, ◌+◌, ◌-◌, ◌*◌, ◌^◌, ◌<◌, ◌≤◌, List, length, refl, sym, arith, subst}
 use Rattle.std.specs.Prelude.{Option, Some, None}
 use Rattle.lic_words.specs.Words.{Word, Cat, Power}

@@ -14,12 +14,12 @@ use Rattle.lic_view.specs.PlaceSets.{ArePlaced, Reaches}
 unfoldable pub mixed : ℕ → ℕ → ℕ
 mixed hash letter = (hash + letter) % 2 ^ 64 * 0x9E3779B97F4A7C15 % 2 ^ 64
 
--- the hash of a row of letters before others with a hash
+-- the hash of a sequence of letters before others with a hash
 abbrev pub hash_before : ℕ → Word → ℕ
 hash_before hash [] = hash
 hash_before hash (c ∷ w) = mixed (hash_before hash w) c
 
--- the hash of a row of letters
+-- the hash of a sequence of letters
 abbrev pub hash_of : Word → ℕ
 hash_of w = hash_before 0 w
 
@@ -56,14 +56,14 @@ pub record HasPlaceWith (tokens : List TokenValue) (lists : List (Vec Entry Glob
   pub entry : HasEntry lists (hash_of w) span
   pub reaches : Reaches tokens (span ∷ []) q last
 
--- Such spans were added that each of the places is in the group for each row of letters that comes before it.
+-- Such spans were added that each of the places is in the group for each sequence of letters that comes before it.
 pub record AddsPlaces (tokens : List TokenValue) (Added : PlaceSpan → Type 0) (Ends : ℕ → ℕ → Type 0) (old new : List (Vec Entry Global)) : Type 0 where
   pub same : length new ≡ length old
   pub kept : (hash : ℕ) (span : PlaceSpan) → HasEntry old hash span → HasEntry new hash span
   pub sound : (hash : ℕ) (span : PlaceSpan) → HasEntry new hash span → HasEntry old hash span ⊎ Added span
   pub complete : (w : Word) (p q last : ℕ) → AreLastLetters w → Reads tokens p w q → Ends q last → HasPlaceWith tokens new w q last
 
--- The groups have places of the spans alone, and each in the group for each row of letters that comes before it.
+-- The groups have places of the spans alone, and each in the group for each sequence of letters that comes before it.
 pub record AreGroupsOf (tokens : List TokenValue) (spans : List PlaceSpan) (lists : List (Vec Entry Global)) : Type 0 where
   pub sound : (hash : ℕ) (span : PlaceSpan) → HasEntry lists hash span → IsPieceOf spans span
   pub complete : (w : Word) (p q last : ℕ) → AreLastLetters w → Reads tokens p w q → Reaches tokens spans q last → HasPlaceWith tokens lists w q last

@@ -5,6 +5,6 @@ pub mod Passing
 pub mod PassingPlaces
 pub mod Reached
 pub mod Reverse
-pub mod Runs
-pub mod RunsKnown
+pub mod Streaks
+pub mod StreaksKnown
 pub mod Tidily

@@ -1,6 +1,6 @@
-//! Going back over letters that pass a test, and rows of them.
+//! Going back over letters that pass a test, and sequences of them.
 
 pub(crate) mod counts;
 pub(crate) mod passing;
-pub(crate) mod run;
-pub(crate) mod runs;
+pub(crate) mod streak;
+pub(crate) mod streaks;

@@ -3,15 +3,15 @@
 ghost use Rattle.std.specs.Prelude.{◌≡◌, ◌<◌, ◌≤◌, ◌∷◌, [], ℕ, map, length, IfOk, IsTrue, MatchOption};
 ghost use Rattle.lic_words.specs.Words.{Power};
 ghost use Rattle.lic_words.specs.Expressions.{Language, IsAtMost, repeat, tidy};
-ghost use Rattle.lic_markup.specs.Meaning.{tree_words, row_words, choice_words};
-ghost use Rattle.lic_ere.specs.Trees.{tree_of, row};
+ghost use Rattle.lic_markup.specs.Meaning.{tree_words, sequence_words, choice_words};
+ghost use Rattle.lic_ere.specs.Trees.{tree_of, sequence};
 ghost use Rattle.lic_view.specs.Backward.{IsBack};
 ghost use Rattle.lic_view.specs.PlaceSets.{ArePlaced};
 ghost use Rattle.lic_reverse.specs.Tidily.{AreWays, IsMore, IsRepeated, IsTidyBack, UpTo, spans_of};
 
 use crate::empty::has_empty_word_alone;
 use crate::letters::passing::{is_one, over_one};
-use crate::letters::runs::{are_few, over_many};
+use crate::letters::streaks::{are_few, over_many};
 use crate::ways::Ways;
 use crate::ways::endings::{GroupedWays, part_for};
 use crate::ways::reached::Reached;
@@ -55,7 +55,7 @@ fn over(alloc: Global, view: &View<'_>, keep: Keep, ere: &Ere, ways: Ways) -> Re
     match ere {
         Ere::Empty => Ok(ways),
         Ere::Char(_) | Ere::Any | Ere::Set(_) => over_one(alloc, view, keep, ere, &ways),
-        Ere::Cat(subs) => over_row(alloc, view, keep, subs, ways),
+        Ere::Cat(subs) => over_sequence(alloc, view, keep, subs, ways),
         Ere::Alt(subs) => over_choice(alloc, view, keep, subs, &ways),
         Ere::Repeat { body, min, max } => over_repeat(alloc, view, keep, body, *min, *max, ways),
     }
@@ -63,7 +63,7 @@ fn over(alloc: Global, view: &View<'_>, keep: Keep, ere: &Ere, ways: Ways) -> Re
 
 // One pattern after another, from the last one to the first. Those that have the empty word alone change nothing.
 #[cycle(over)]
-fn over_row(
+fn over_sequence(
     alloc: Global,
     view: &View<'_>,
     keep: Keep,
@@ -71,7 +71,7 @@ fn over_row(
     mut ways: Ways,
 ) -> Result<Ways, Stop>
     requires { AreWays view.now ways }
-    ensures { IfOk result (λ found. IsTidyBack keep view.now (Language (row_words (row (map tree_of subs.now)))) (spans_of ways) (spans_of found)) }
+    ensures { IfOk result (λ found. IsTidyBack keep view.now (Language (sequence_words (sequence (map tree_of subs.now)))) (spans_of ways) (spans_of found)) }
 {
     for number in (0..subs.len()).rev() {
         let sub = &subs[number];
@@ -95,7 +95,7 @@ fn over_choice(
     ways: &Ways,
 ) -> Result<Ways, Stop>
     requires { AreWays view.now ways.now }
-    ensures { IfOk result (λ found. IsTidyBack keep view.now (Language (choice_words (row (map tree_of subs.now)))) (spans_of ways.now) (spans_of found)) }
+    ensures { IfOk result (λ found. IsTidyBack keep view.now (Language (choice_words (sequence (map tree_of subs.now)))) (spans_of ways.now) (spans_of found)) }
 {
     let grouped = GroupedWays::if_many(alloc, view, subs.len(), ways)?;
     let mut found = Ways::none(alloc);

@@ -2,6 +2,7 @@
 
 ghost use Rattle.std.specs.Prelude.{◌≡◌, ℕ, ◌+◌, ◌-◌, ◌*◌, ◌/◌, ◌%◌, ◌^◌, ◌≤◌, ◌<◌, true, false, length, slice_index, bit_or, bit_and};
 
+use crate::word::TOP;
 use std::simd::prelude::*;
 
 /// The four words from `at` on become their bitwise or with the other row's.
@@ -48,7 +49,7 @@ pub fn shift_four(row: &mut [u64], at: usize)
 {
     let words = u64x4::from_slice(&row[at..]);
     let lower = u64x4::from_slice(&row[at - 1..]);
-    let moved = (words << u64x4::splat(1)) | (lower >> u64x4::splat(63));
+    let moved = (words << u64x4::splat(1)) | (lower >> u64x4::splat(TOP as u64));
     moved.copy_to_slice(&mut row[at..]);
 }
 

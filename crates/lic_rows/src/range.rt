@@ -5,7 +5,7 @@ ghost use Rattle.std.specs.Prelude.{◌≡◌, ◌≢◌, ℕ, suc, ◌/◌, ◌
 ghost use Rattle.std.specs.Int.{bit_at};
 ghost use Rattle.lic_rows.specs.Bits.{has, IsKeptOutside};
 
-use crate::word::{WORD, spliced, with_bit};
+use crate::word::{TOP, WORD, spliced, with_bit};
 use crate::words::{clear_from, shift_words};
 
 /// Whether the bit is set.
@@ -155,6 +155,6 @@ pub fn last_set(row: &[u64], from: usize, to: usize) -> Option<usize>
     if word == 0 {
         return None;
     }
-    let found = at * WORD + (63 - word.leading_zeros() as usize);
+    let found = at * WORD + (TOP - word.leading_zeros() as usize);
     if from <= found { Some(found) } else { None }
 }

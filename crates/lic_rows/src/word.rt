@@ -6,6 +6,9 @@ ghost use Rattle.std.specs.Int.{bit_at};
 /// How many bits a word has.
 pub const WORD: usize = 64;
 
+/// The number of the highest bit of a word.
+pub const TOP: usize = WORD - 1;
+
 /// The bits of `low` below bit `at`, and those of `high` from there on.
 #[inline(always)]
 pub fn spliced(low: u64, high: u64, at: usize) -> u64

@@ -4,7 +4,7 @@ ghost use Rattle.std.specs.Prelude.{◌≡◌, ℕ, suc, ◌*◌, ◌/◌, ◌%�
 ghost use Rattle.lic_rows.specs.Bits.{has};
 
 use crate::lanes::{four_are_zero, shift_four};
-use crate::word::{WORD, fresh};
+use crate::word::{TOP, WORD, fresh};
 
 /// Whether the words numbered `from` or more are zero.
 pub fn are_zero_from(row: &[u64], from: usize) -> bool
@@ -43,7 +43,7 @@ pub fn shift_words(row: &mut [u64])
     }
     'rest: while at > 1 {
         at -= 1;
-        row[at] = (row[at] << 1) | (row[at - 1] >> 63);
+        row[at] = (row[at] << 1) | (row[at - 1] >> TOP);
     }
     if at == 1 {
         row[0] = row[0] << 1;

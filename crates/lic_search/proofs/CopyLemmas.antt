@@ -12,7 +12,7 @@ use Rattle.lic_markup.specs.declared.part.Part.{Part, Part-F, fold-roll-Part}
 use Rattle.lic_markup.specs.declared.part.Part.TheVariants.{Optional, rolls-Optional}
 use Rattle.lic_markup.specs.Meaning.{node_words, part_words, parts_words}
 use Rattle.lic_markup.specs.Parts as nodes
-use Rattle.lic_markup.specs.Parts.{Node, part_node, part_of, row}
+use Rattle.lic_markup.specs.Parts.{Node, part_node, part_of, sequence}
 use Rattle.lic_search.specs.Copies.{AreCopies, words_from}
 use Rattle.lic_reverse.specs.Tidily.{UpTo}
 use Rattle.lic_search.proofs.CopyWords.{copies-joined, copies-none, copies-within}
@@ -97,7 +97,7 @@ text-first body text is =
     ∙ ap (λ x. x ∷ drop 1 (map part_of body)) (get_or_from_slice_get (map part_of body) 0 n n is)
     ∙ ap (λ x. n ∷ x) (drop-map part_of 1 body)
 
-part_of-Optional : (body : Vec Part Global) → part_of (Optional body) ≡ nodes.optional (row (map part_of body.items))
+part_of-Optional : (body : Vec Part Global) → part_of (Optional body) ≡ nodes.optional (sequence (map part_of body.items))
 part_of-Optional body = ap part_of (sym (rolls-Optional body)) ∙ fold-roll-Part Node part_node (Part-F.Optional body)
 
 -- a text, and then copies of it
@@ -112,8 +112,8 @@ copies-part part body text first count is one begins copies w = (
     items : List Part
     items = body.items
 
-    nodes_are : part_of part ≡ nodes.optional (row (nodes.letters text ∷ map part_of (drop 1 items)))
-    nodes_are = ap part_of is ∙ part_of-Optional body ∙ ap (λ x. nodes.optional (row x)) (text-first items text begins)
+    nodes_are : part_of part ≡ nodes.optional (sequence (nodes.letters text ∷ map part_of (drop 1 items)))
+    nodes_are = ap part_of is ∙ part_of-Optional body ∙ ap (λ x. nodes.optional (sequence x)) (text-first items text begins)
 
     others : (v : Word) → words_from items 1 v ↔ UpTo (TextWords text) count v
     others v =

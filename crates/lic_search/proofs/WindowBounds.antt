@@ -19,7 +19,7 @@ use Rattle.lic_ere.specs.Trees as trees
 use Rattle.lic_markup.specs.declared.part.Part.{Part, Part-F, fold-roll-Part}
 use Rattle.lic_markup.specs.declared.part.Part.TheVariants.{rolls-Var}
 use Rattle.lic_markup.specs.declared.part.Part.TheVariants as part
-use Rattle.lic_markup.specs.Meaning.{choice_words, node_words, part_words, parts_words, row_words, tree_words}
+use Rattle.lic_markup.specs.Meaning.{choice_words, node_words, part_words, parts_words, sequence_words, tree_words}
 use Rattle.lic_markup.specs.Parts.{Node, part_node, part_of}
 use Rattle.lic_markup.specs.Parts as nodes
 use Rattle.lic_norm.specs.Tokens.{TokenValue}
@@ -62,11 +62,11 @@ letters-none e min most = record {
 }
 
 -- the words of one pattern more in a row
-row-more : (ts : List Tree) (t : Tree) (w : Word) → Language (row_words (trees.row (ts ++ t ∷ []))) w →
-    Cat (Language (row_words (trees.row ts))) (Language (tree_words t)) w
-row-more [] t w is = ([], w, refl, subst (Language (tree_words t)) (sym (is.4 ∙ ap (λ x. is.0 ++ x) is.3 ∙ append-nil is.0)) is.2, refl)
-row-more (s ∷ ts) t w is =
-    let more = row-more ts t is.1 is.3 in (
+sequence-more : (ts : List Tree) (t : Tree) (w : Word) → Language (sequence_words (trees.sequence (ts ++ t ∷ []))) w →
+    Cat (Language (sequence_words (trees.sequence ts))) (Language (tree_words t)) w
+sequence-more [] t w is = ([], w, refl, subst (Language (tree_words t)) (sym (is.4 ∙ ap (λ x. is.0 ++ x) is.3 ∙ append-nil is.0)) is.2, refl)
+sequence-more (s ∷ ts) t w is =
+    let more = sequence-more ts t is.1 is.3 in (
       is.0 ++ more.0,
       more.1,
       (is.0, more.0, is.2, more.2, refl),
@@ -75,8 +75,8 @@ row-more (s ∷ ts) t w is =
     )
 
 -- the words of one alternative more
-choice-more : (ts : List Tree) (t : Tree) (w : Word) → Language (choice_words (trees.row (ts ++ t ∷ []))) w →
-    Language (choice_words (trees.row ts)) w ⊎ Language (tree_words t) w
+choice-more : (ts : List Tree) (t : Tree) (w : Word) → Language (choice_words (trees.sequence (ts ++ t ∷ []))) w →
+    Language (choice_words (trees.sequence ts)) w ⊎ Language (tree_words t) w
 choice-more [] t w (inl is) = inr is
 choice-more [] t w (inr none) = absurd none
 choice-more (s ∷ ts) t w (inl is) = inl (inl is)
@@ -88,13 +88,13 @@ mapped-more : {X Y : Type 0} (f : X → Y) (xs : List X) (i : ℕ) (x : X) → i
 mapped-more f xs i x inside is =
     ap (map f) (take_more xs i x inside ∙ ap (λ y. take i xs ++ y ∷ []) (sym is)) ∙ map-append f (take i xs) (x ∷ [])
 
-pub letters-row : (subs : List Ere) (i : ℕ) (sub : Ere) (m n : ℕ) → i < length subs → sub ≡ get_or subs i sub →
-    HasAtMost (row_words (trees.row (map tree_of (take i subs)))) m → HasAtMost (tree_words (tree_of sub)) n →
-    HasAtMost (row_words (trees.row (map tree_of (take (i + 1) subs)))) (m + n)
-letters-row subs i sub m n inside is before here = record {
+pub letters-sequence : (subs : List Ere) (i : ℕ) (sub : Ere) (m n : ℕ) → i < length subs → sub ≡ get_or subs i sub →
+    HasAtMost (sequence_words (trees.sequence (map tree_of (take i subs)))) m → HasAtMost (tree_words (tree_of sub)) n →
+    HasAtMost (sequence_words (trees.sequence (map tree_of (take (i + 1) subs)))) (m + n)
+letters-sequence subs i sub m n inside is before here = record {
   letters = λ w has.
-      let cut = row-more (map tree_of (take i subs)) (tree_of sub) w
-      (subst (λ ts. Language (row_words (trees.row ts)) w) (mapped-more tree_of subs i sub inside is) has) in
+      let cut = sequence-more (map tree_of (take i subs)) (tree_of sub) w
+      (subst (λ ts. Language (sequence_words (trees.sequence ts)) w) (mapped-more tree_of subs i sub inside is) has) in
       let all : length w ≡ length (cut.0 ++ cut.1) = ap length cut.4 in
       let one = before.letters cut.0 cut.2 in
       let other = here.letters cut.1 cut.3 in
@@ -102,12 +102,12 @@ letters-row subs i sub m n inside is before here = record {
 }
 
 pub letters-choice : (subs : List Ere) (i : ℕ) (sub : Ere) (m : ℕ) → i < length subs → sub ≡ get_or subs i sub →
-    HasAtMost (choice_words (trees.row (map tree_of (take i subs)))) m → HasAtMost (tree_words (tree_of sub)) m →
-    HasAtMost (choice_words (trees.row (map tree_of (take (i + 1) subs)))) m
+    HasAtMost (choice_words (trees.sequence (map tree_of (take i subs)))) m → HasAtMost (tree_words (tree_of sub)) m →
+    HasAtMost (choice_words (trees.sequence (map tree_of (take (i + 1) subs)))) m
 letters-choice subs i sub m inside is before here = record {
   letters = λ w has.
       elim (choice-more (map tree_of (take i subs)) (tree_of sub) w
-      (subst (λ ts. Language (choice_words (trees.row ts)) w) (mapped-more tree_of subs i sub inside is) has)) [
+      (subst (λ ts. Language (choice_words (trees.sequence ts)) w) (mapped-more tree_of subs i sub inside is) has)) [
         | inl one ↦ before.letters w one
         | inr other ↦ here.letters w other
       ];
@@ -122,20 +122,20 @@ abbrev pub IsBound : (ℕ → Type 0) → ℕ → Type 0
 IsBound Has most = most < most_number → Has most
 
 -- the trees of patterns of patterns
-tree_of-Cat : (subs : Vec Ere Global) → tree_of (ere.Cat subs) ≡ trees.cat (trees.row (map tree_of subs.items))
+tree_of-Cat : (subs : Vec Ere Global) → tree_of (ere.Cat subs) ≡ trees.cat (trees.sequence (map tree_of subs.items))
 tree_of-Cat subs = ap tree_of (sym (rolls-Cat subs)) ∙ fold-roll-Ere Tree node_tree (Ere-F.Cat subs)
 
-tree_of-Alt : (subs : Vec Ere Global) → tree_of (ere.Alt subs) ≡ trees.alt (trees.row (map tree_of subs.items))
+tree_of-Alt : (subs : Vec Ere Global) → tree_of (ere.Alt subs) ≡ trees.alt (trees.sequence (map tree_of subs.items))
 tree_of-Alt subs = ap tree_of (sym (rolls-Alt subs)) ∙ fold-roll-Ere Tree node_tree (Ere-F.Alt subs)
 
 tree_of-Repeat : (body : Box Ere Global) (min : ℕ) (max : Option ℕ) → tree_of (ere.Repeat body min max) ≡ trees.repeat (tree_of body.value) min max
 tree_of-Repeat body min max = ap tree_of (sym (rolls-Repeat body min max)) ∙ fold-roll-Ere Tree node_tree (Ere-F.Repeat body min max)
 
-pub letters-cat : (e : Ere) (subs : Vec Ere Global) (m : ℕ) → e ≡ ere.Cat subs → HasAtMost (row_words (trees.row (map tree_of subs.items))) m →
+pub letters-cat : (e : Ere) (subs : Vec Ere Global) (m : ℕ) → e ≡ ere.Cat subs → HasAtMost (sequence_words (trees.sequence (map tree_of subs.items))) m →
     HasAtMost (tree_words (tree_of e)) m
 letters-cat e subs m is has = subst (λ t. HasAtMost (tree_words t) m) (sym (ap tree_of is ∙ tree_of-Cat subs)) has
 
-pub letters-alt : (e : Ere) (subs : Vec Ere Global) (m : ℕ) → e ≡ ere.Alt subs → HasAtMost (choice_words (trees.row (map tree_of subs.items))) m →
+pub letters-alt : (e : Ere) (subs : Vec Ere Global) (m : ℕ) → e ≡ ere.Alt subs → HasAtMost (choice_words (trees.sequence (map tree_of subs.items))) m →
     HasAtMost (tree_words (tree_of e)) m
 letters-alt e subs m is has = subst (λ t. HasAtMost (tree_words t) m) (sym (ap tree_of is ∙ tree_of-Alt subs)) has
 

@@ -3,7 +3,7 @@
 ghost use Rattle.std.specs.Prelude.{IfOk, map};
 ghost use Rattle.lic_words.specs.Expressions.{Language, alt, empty};
 ghost use Rattle.lic_markup.specs.Meaning.{parts_words, part_words};
-ghost use Rattle.lic_markup.specs.Parts.{part_of, row};
+ghost use Rattle.lic_markup.specs.Parts.{part_of, sequence};
 ghost use Rattle.lic_markup.specs.PartTexts.{HasPieceTexts, HavePieceTexts};
 ghost use Rattle.lic_view.specs.Backward.{IsBack};
 ghost use Rattle.lic_view.specs.PlaceSets.{ArePlaced};
@@ -24,7 +24,7 @@ pub(crate) fn over_parts(
     parts: &[Part],
     spans: Vec<PlaceSpan>,
 ) -> Result<Vec<PlaceSpan>, Stop>
-    requires texts { HavePieceTexts (row (map part_of parts.now)) }
+    requires texts { HavePieceTexts (sequence (map part_of parts.now)) }
     requires placed { ArePlaced view.now spans.items }
     ensures { IfOk result (λ found. IsBack keep view.now (Language (parts_words (map part_of parts.now))) spans.items found.items) }
 {
@@ -72,7 +72,7 @@ fn over_optional(
     parts: &[Part],
     spans: Vec<PlaceSpan>,
 ) -> Result<Vec<PlaceSpan>, Stop>
-    requires texts { HavePieceTexts (row (map part_of parts.now)) }
+    requires texts { HavePieceTexts (sequence (map part_of parts.now)) }
     requires placed { ArePlaced view.now spans.items }
     ensures { IfOk result (λ found. IsBack keep view.now
         (Language (alt empty (parts_words (map part_of parts.now)))) spans.items found.items) }

@@ -6,9 +6,9 @@ ghost use Rattle.lic_words.specs.Words.{Word};
 ghost use Rattle.lic_words.specs.Expressions.{Language, letters};
 ghost use Rattle.lic_markup.specs.Meaning.{part_words};
 ghost use Rattle.lic_markup.specs.Parts as nodes;
-ghost use Rattle.lic_markup.specs.Parts.{part_of, row};
+ghost use Rattle.lic_markup.specs.Parts.{part_of, sequence};
 ghost use Rattle.lic_markup.specs.PartTexts.{HasPieceTexts, HavePieceTexts};
-ghost use Rattle.lic_norm.specs.PieceTexts.{IsPieceText};
+ghost use Rattle.lic_pieces.specs.PieceTexts.{IsPieceText};
 ghost use Rattle.lic_search.specs.Copies.{AreCopies};
 ghost use Rattle.lic_reverse.specs.Tidily.{UpTo};
 
@@ -28,7 +28,7 @@ pub(crate) struct Copies<'t> {
 pub(crate) fn last_copies(parts: &[Part], end: usize) -> Option<Copies<'_>>
     requires some { 0 < end }
     requires within { end ≤ length parts.now }
-    requires texts { HavePieceTexts (row (map part_of parts.now)) }
+    requires texts { HavePieceTexts (sequence (map part_of parts.now)) }
     ensures copies { IfSome result (λ copies. AreCopies parts.now end copies.text.now copies.first copies.count) }
     ensures some { IfSome result (λ copies. copies.first < end) }
     ensures piece { IfSome result (λ copies. IsPieceText copies.text.now) }

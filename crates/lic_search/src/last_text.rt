@@ -3,7 +3,7 @@
 ghost use Rattle.std.specs.Prelude.{IfOk, IfSome, map};
 ghost use Rattle.lic_keys.specs.Required.{HasLetters};
 ghost use Rattle.lic_markup.specs.PartTexts.{HavePieceTexts};
-ghost use Rattle.lic_markup.specs.Parts.{part_of, row};
+ghost use Rattle.lic_markup.specs.Parts.{part_of, sequence};
 ghost use Rattle.lic_places.specs.Places.{spelling_of};
 ghost use Rattle.lic_search.specs.Windows.{AreRequiredEnds};
 
@@ -21,7 +21,7 @@ pub(crate) fn last_ends(
     parts: &[Part],
     required: &RequiredEnds,
 ) -> Result<Option<RequiredEnds>, AllocError>
-    requires { HavePieceTexts (row (map part_of parts.now)) }
+    requires { HavePieceTexts (sequence (map part_of parts.now)) }
     ensures { IfOk result (λ found. AreRequiredEnds (spelling_of view.now) parts.now found) }
 {
     let Some(text) = last_text(parts) else {
@@ -60,7 +60,7 @@ struct LastText<'t> {
 
 // The last text of a template outside optional parts that has letters.
 fn last_text(parts: &[Part]) -> Option<LastText<'_>>
-    requires { HavePieceTexts (row (map part_of parts.now)) }
+    requires { HavePieceTexts (sequence (map part_of parts.now)) }
     ensures { IfSome result (λ text. HasLetters parts.now text.number text.letters.now) }
 {
     for number in (0..parts.len()).rev() {

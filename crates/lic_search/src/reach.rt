@@ -5,7 +5,7 @@ ghost use Rattle.std.specs.Str.{chars};
 ghost use Rattle.lic_ere.specs.Trees as trees;
 ghost use Rattle.lic_ere.specs.Trees.{tree_of};
 ghost use Rattle.lic_words.specs.Expressions.{letters};
-ghost use Rattle.lic_markup.specs.Meaning.{choice_words, part_words, parts_words, row_words, tree_words};
+ghost use Rattle.lic_markup.specs.Meaning.{choice_words, part_words, parts_words, sequence_words, tree_words};
 ghost use Rattle.lic_markup.specs.Parts.{part_of};
 ghost use Rattle.lic_search.specs.Windows.{HasAtMost, TakesAtMost};
 
@@ -51,7 +51,7 @@ fn most_letters(ere: &Ere) -> usize
     match ere {
         Ere::Empty => 0,
         Ere::Char(_) | Ere::Any | Ere::Set(_) => 1,
-        Ere::Cat(subs) => most_row_letters(subs),
+        Ere::Cat(subs) => most_sequence_letters(subs),
         Ere::Alt(subs) => most_choice_letters(subs),
         Ere::Repeat { body, max, .. } => most_repeated(most_letters(body), *max),
     }
@@ -69,8 +69,8 @@ fn most_repeated(most: usize, max: Option<u32>) -> usize
 
 // How many letters a word of patterns in a row has at most.
 #[cycle(most_letters)]
-fn most_row_letters(subs: &[Ere]) -> usize
-    ensures { result < usize.MAX → HasAtMost (row_words (trees.row (map tree_of subs.now))) result }
+fn most_sequence_letters(subs: &[Ere]) -> usize
+    ensures { result < usize.MAX → HasAtMost (sequence_words (trees.sequence (map tree_of subs.now))) result }
 {
     let mut most: usize = 0;
     for sub in subs {
@@ -82,7 +82,7 @@ fn most_row_letters(subs: &[Ere]) -> usize
 // How many letters a word of any one of the patterns has at most.
 #[cycle(most_letters)]
 fn most_choice_letters(subs: &[Ere]) -> usize
-    ensures { result < usize.MAX → HasAtMost (choice_words (trees.row (map tree_of subs.now))) result }
+    ensures { result < usize.MAX → HasAtMost (choice_words (trees.sequence (map tree_of subs.now))) result }
 {
     let mut most = 0;
     for sub in subs {

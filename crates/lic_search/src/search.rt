@@ -4,7 +4,7 @@ ghost use Rattle.std.specs.Prelude.{◌≡◌, ◌<◌, ◌≤◌, ℕ, length, 
 ghost use Rattle.lic_words.specs.Words.{Word};
 ghost use Rattle.lic_words.specs.Expressions.{Language};
 ghost use Rattle.lic_markup.specs.Meaning.{parts_words};
-ghost use Rattle.lic_markup.specs.Parts.{part_of, row};
+ghost use Rattle.lic_markup.specs.Parts.{part_of, sequence};
 ghost use Rattle.lic_markup.specs.PartTexts.{HavePieceTexts};
 ghost use Rattle.lic_norm.specs.Places.{place_end};
 ghost use Rattle.lic_places.specs.Places.{spelling_of};
@@ -35,7 +35,7 @@ pub(crate) fn least_ranges(
     parts: &[Part],
     required: &Option<RequiredEnds>,
 ) -> Result<Vec<Range>, Stop>
-    requires texts { HavePieceTexts (row (map part_of parts.now)) }
+    requires texts { HavePieceTexts (sequence (map part_of parts.now)) }
     requires required { AreRequiredEnds (spelling_of view.now) parts.now required.now }
     ensures { IfOk result (λ found. HasLeastRanges view.now (parts_words (map part_of parts.now)) found.items) }
 {
@@ -54,7 +54,7 @@ pub(crate) fn bundles_within(
     template: usize,
     most: usize,
 ) -> Result<Vec<Bundle>, Stop>
-    requires texts { HavePieceTexts (row (map part_of parts.now)) }
+    requires texts { HavePieceTexts (sequence (map part_of parts.now)) }
     requires required { AreRequiredEnds (spelling_of view.now) parts.now required.now }
     ensures { IfOk result (λ bundles. AreBundlesOf view.now (parts_words (map part_of parts.now)) template bundles.items) }
 {
@@ -71,7 +71,7 @@ fn begins_of(
     parts: &[Part],
     required: &Option<RequiredEnds>,
 ) -> Result<Vec<PlaceSpan>, Stop>
-    requires texts { HavePieceTexts (row (map part_of parts.now)) }
+    requires texts { HavePieceTexts (sequence (map part_of parts.now)) }
     requires required { AreRequiredEnds (spelling_of view.now) parts.now required.now }
     ensures { IfOk result (λ begins. IsBackFrom keep view.now (Language (parts_words (map part_of parts.now)))
         (λ q last. (last < length view.now) × (q ≡ place_end view.now last)) begins.items) }
@@ -87,7 +87,7 @@ fn ends_of(
     parts: &[Part],
     required: &Option<RequiredEnds>,
 ) -> Result<Vec<PlaceSpan>, AllocError>
-    requires texts { HavePieceTexts (row (map part_of parts.now)) }
+    requires texts { HavePieceTexts (sequence (map part_of parts.now)) }
     requires required { AreRequiredEnds (spelling_of view.now) parts.now required.now }
     ensures placed { IfOk result (λ ends. ArePlaced view.now ends.items) }
     ensures sound { IfOk result (λ ends. (p last : ℕ) → Reaches view.now ends.items p last

@@ -11,7 +11,7 @@ use std::fmt::Write;
 use std::test::Fail;
 
 /// One text and its tight matches, each as template, first token and last token.
-type Row<'a> = (&'a [&'a str], &'a str, &'a str);
+type Worked<'a> = (&'a [&'a str], &'a str, &'a str);
 
 /// Triples, each as template, first token and last token.
 fn listed(alloc: Global, triples: &[Triple]) -> Result<String, Fail> {
@@ -49,7 +49,7 @@ fn shown(alloc: Global, templates: &[&str], source: &str, list: &str) -> Result<
 
 #[test]
 fn finds_the_tight_matches_of_worked_texts(rt: HostRuntime) -> Result<(), Fail> {
-    let table: &[Row] = &[
+    let table: &[Worked] = &[
         // none to five letters, blanks counted
         (
             &["a <<var;name=v;original=o;match=.{0,5}>> b"],

@@ -7,7 +7,7 @@ use Rattle.std.proofs.lemmas.Slice.Eq.{bytes_eq-Decides}
 use Rattle.lic_kind.specs.Kinds.{kind_of, is_mark_kind}
 use Rattle.lic_trim.specs.Texts.{ends_in}
 use Rattle.lic_trim.specs.Lines.{is_space, is_separator}
-use Rattle.lic_trim.specs.Walks.{ends_piece, IsRunFront}
+use Rattle.lic_trim.specs.Walks.{ends_piece, IsStreakFront}
 use Rattle.lic_trim.proofs.TextLemmas.{same_truth}
 use Rattle.lic_trim.proofs.PieceEnds.{ends-true, ends-from, slice_snoc, slice_at, ends_in-snoc, length_part, separator_parts, separator_from}
 
@@ -88,7 +88,7 @@ module _ (flags : List Bool) (line : List ℕ) (end before : ℕ) (last : end �
         ap (λ i. slice_range line i before) (sym place) ∙ sym text,
       )
 
-  pub separator_ends : (first : ℕ) → IsRunFront flags line end first
+  pub separator_ends : (first : ℕ) → IsStreakFront flags line end first
       → ends_piece is_separator flags line end
       ≡ (is_mark_kind (kind_of (slice_index line (end - 1))) && nat_le 3 (end - first))
   separator_ends first front = same_truth _ _

@@ -41,40 +41,40 @@ module _ (way : List ℕ) where
   bits_of_word separators word n =
       has_bit_zero n ∙ sym (none_begins separators n (λ le on is. false≢true (sym word ∙ (separator_is n le is).1)))
 
-  module _ (run : ℕ) (within : run ≤ length way) (same : (i : ℕ) → i < run → get_or way i 0 ≡ get_or way 0 0)
-      (stop : run < length way → get_or way run 0 ≢ get_or way 0 0) where
-    in_run : (n : ℕ) → n ≤ length way → is_separator (take n way) ≡ true → (3 ≤ n) × (n ≤ run)
-    in_run n le is =
+  module _ (streak : ℕ) (within : streak ≤ length way) (same : (i : ℕ) → i < streak → get_or way i 0 ≡ get_or way 0 0)
+      (stop : streak < length way → get_or way streak 0 ≢ get_or way 0 0) where
+    in_streak : (n : ℕ) → n ≤ length way → is_separator (take n way) ≡ true → (3 ≤ n) × (n ≤ streak)
+    in_streak n le is =
         let parts = separator_is n le is in (
           parts.0,
-          elim (cases_lt run n) [
-            | inl beyond ↦ absurd (stop (omega arith) (parts.2 run beyond))
+          elim (cases_lt streak n) [
+            | inl beyond ↦ absurd (stop (omega arith) (parts.2 streak beyond))
             | inr fits ↦ fits
           ],
         )
 
     -- where fewer than three are alike,
-    pub bits_of_few : (separators : Bool) → run < 3 → (n : ℕ) → has_bit 0 n ≡ begins_with_separator separators n way
+    pub bits_of_few : (separators : Bool) → streak < 3 → (n : ℕ) → has_bit 0 n ≡ begins_with_separator separators n way
     bits_of_few separators few n =
-        has_bit_zero n ∙ sym (none_begins separators n (λ le on is. let far = in_run n le is in omega (arith, far.0, far.1)))
+        has_bit_zero n ∙ sym (none_begins separators n (λ le on is. let far = in_streak n le is in omega (arith, far.0, far.1)))
 
-    -- and in a run of marks those from 3 to its length are
-    pub bits_of_run : (separators : Bool) → separators ≡ true → is_mark_kind (kind_of (get_or way 0 0)) ≡ true → (n : ℕ)
-        → has_bit (2 ^ (run + 1) - 2 ^ 3) n ≡ begins_with_separator separators n way
-    bits_of_run separators on mark n = elim (cases_lt n 3) [
+    -- and in a streak of marks those from 3 to its length are
+    pub bits_of_streak : (separators : Bool) → separators ≡ true → is_mark_kind (kind_of (get_or way 0 0)) ≡ true → (n : ℕ)
+        → has_bit (2 ^ (streak + 1) - 2 ^ 3) n ≡ begins_with_separator separators n way
+    bits_of_streak separators on mark n = elim (cases_lt n 3) [
       | inl low ↦
-          ap (λ b. b == 1) (bit_at_mask_below 3 (run + 1) n low)
-          ∙ sym (none_begins separators n (λ le on' is. let far = in_run n le is in omega (arith, far.0)))
-      | inr long ↦ elim (cases_lt run n) [
+          ap (λ b. b == 1) (bit_at_mask_below 3 (streak + 1) n low)
+          ∙ sym (none_begins separators n (λ le on' is. let far = in_streak n le is in omega (arith, far.0)))
+      | inr long ↦ elim (cases_lt streak n) [
         | inl beyond ↦
-            ap (λ b. b == 1) (bit_at_mask_above 3 (run + 1) n (omega arith))
-            ∙ sym (none_begins separators n (λ le on' is. let far = in_run n le is in omega (arith, far.1)))
+            ap (λ b. b == 1) (bit_at_mask_above 3 (streak + 1) n (omega arith))
+            ∙ sym (none_begins separators n (λ le on' is. let far = in_streak n le is in omega (arith, far.1)))
         | inr fits ↦
             let size : length (take n way) ≡ n = length-take-le n way (omega arith) in
             let is : is_separator (take n way) ≡ true =
             separator_from (take n way) (get_or way 0 0) mark (omega (arith, size))
             (λ i lt. get_or-take n way i 0 (omega (arith, size)) ∙ same i (omega (arith, size))) in
-            ap (λ b. b == 1) (bit_at_mask_inside 3 (run + 1) n long (omega arith))
+            ap (λ b. b == 1) (bit_at_mask_inside 3 (streak + 1) n long (omega arith))
             ∙ sym (and_from _ _ (le-leb n (length way) (omega arith)) (and_from separators (is_separator (take n way)) on is))
       ]
     ]
@@ -84,18 +84,18 @@ module _ (line : List ℕ) (place : ℕ) where
   pub first_at : get_or (drop place line) 0 0 ≡ get_or line place 0
   first_at = let start : place + 0 ≡ place = omega arith in get_or-drop place line 0 0 ∙ ap (λ k. get_or line k 0) start
 
-  pub same_at : (run : ℕ) → ((i : ℕ) → i < run → get_or line (place + i) 0 ≡ get_or line place 0)
-      → (i : ℕ) → i < run → get_or (drop place line) i 0 ≡ get_or (drop place line) 0 0
-  same_at run same i lt = get_or-drop place line i 0 ∙ same i lt ∙ sym first_at
+  pub same_at : (streak : ℕ) → ((i : ℕ) → i < streak → get_or line (place + i) 0 ≡ get_or line place 0)
+      → (i : ℕ) → i < streak → get_or (drop place line) i 0 ≡ get_or (drop place line) 0 0
+  same_at streak same i lt = get_or-drop place line i 0 ∙ same i lt ∙ sym first_at
 
-  pub stop_at : (run : ℕ) → (place + run < length line → get_or line (place + run) 0 ≢ get_or line place 0)
-      → run < length (drop place line) → get_or (drop place line) run 0 ≢ get_or (drop place line) 0 0
-  stop_at run stop lt e = stop (omega (arith, length-drop place line)) (sym (get_or-drop place line run 0) ∙ e ∙ first_at)
+  pub stop_at : (streak : ℕ) → (place + streak < length line → get_or line (place + streak) 0 ≢ get_or line place 0)
+      → streak < length (drop place line) → get_or (drop place line) streak 0 ≢ get_or (drop place line) 0 0
+  stop_at streak stop lt e = stop (omega (arith, length-drop place line)) (sym (get_or-drop place line streak 0) ∙ e ∙ first_at)
 
--- how a mask of the lengths from 3 to that of a run is made
-pub room_of_run : (run : ℕ) → 3 ≤ run → run ≤ 62 → (8 ≤ 1 * 2 ^ (run + 1) % 2 ^ 64) × (1 * 2 ^ (run + 1) % 2 ^ 64 ≡ 2 ^ (run + 1))
-room_of_run run long fits =
-    let low : 2 ^ 3 ≤ 2 ^ (run + 1) = pow_mono {i = 3} {j = run + 1} (omega arith) in
-    let high : 2 ^ (run + 1) ≤ 2 ^ 63 = pow_mono {i = run + 1} {j = 63} (omega arith) in
-    let is : 1 * 2 ^ (run + 1) % 2 ^ 64 ≡ 2 ^ (run + 1) = omega arith in
+-- how a mask of the lengths from 3 to that of a streak is made
+pub room_of_streak : (streak : ℕ) → 3 ≤ streak → streak ≤ 62 → (8 ≤ 1 * 2 ^ (streak + 1) % 2 ^ 64) × (1 * 2 ^ (streak + 1) % 2 ^ 64 ≡ 2 ^ (streak + 1))
+room_of_streak streak long fits =
+    let low : 2 ^ 3 ≤ 2 ^ (streak + 1) = pow_mono {i = 3} {j = streak + 1} (omega arith) in
+    let high : 2 ^ (streak + 1) ≤ 2 ^ 63 = pow_mono {i = streak + 1} {j = 63} (omega arith) in
+    let is : 1 * 2 ^ (streak + 1) % 2 ^ 64 ≡ 2 ^ (streak + 1) = omega arith in
     (omega (arith, is), is)

@@ -225,7 +225,7 @@ unfolding repeat_ends
 repeat_ends-start flags line t = refl
 
 module _ (flags : List Bool) (line : List ℕ) (k c : ℕ) (rest : List ℕ) (within : k < length line) where
-  -- the rest of the text ends here, after a row
+  -- the rest of the text ends here, after a sequence
   pub record RestEnds : Type 0 where
     pub fits : length rest ≤ k
     pub flagged : slice_index_or flags (k - length rest) false ≡ true
@@ -330,7 +330,7 @@ module _ (flags : List Bool) (line : List ℕ) (k : ℕ) (within : k < length li
         ∙ repeat_from_repeat flags line k c (drop 1 t) within same
         (ap (repeat_ends flags line k) (sym whole) ∙ before))
 
-    -- the rest of the text must end here, after a row
+    -- the rest of the text must end here, after a sequence
     only_rest : repeat_ends flags line k t ≡ false → repeat_ends flags line (k + 1) t ≡ true → RestEnds flags line k c (drop 1 t) within
     only_rest before h =
         ⊎_elim

@@ -7,14 +7,14 @@ use Rattle.lic_kind.specs.LineRules.{LineRules}
 use Rattle.lic_trim.specs.declared.cut.LineCut.{LineCut}
 use Rattle.lic_trim.specs.Lines.{whole_line, item_length, lead_length, item_after_lead, tail_length, cut_of}
 use Rattle.lic_trim.specs.Spaces.{TakesSpaces}
-use Rattle.lic_trim.specs.Texts.{is_row, longest_front}
+use Rattle.lic_trim.specs.Texts.{is_sequence, longest_front}
 use Rattle.lic_trim.specs.Walks.{is_walked_piece, walked, Front, End}
 use Rattle.lic_trim.proofs.CutLemmas.{lead_on, tail_on}
 
 module _ (rules : LineRules) (line rest : List ℕ) (n m : ℕ) (is_rest : rest ≡ drop n line)
-    (lead : n ≡ longest_front (is_row (is_walked_piece rules Front)) (walked Front line)) (front : n ≤ length line)
+    (lead : n ≡ longest_front (is_sequence (is_walked_piece rules Front)) (walked Front line)) (front : n ≤ length line)
     (item : item_length rules rest ≡ 0)
-    (tail : m ≡ longest_front (is_row (is_walked_piece rules End)) (walked End rest)) (end : m ≤ length rest) where
+    (tail : m ≡ longest_front (is_sequence (is_walked_piece rules End)) (walked End rest)) (end : m ≤ length rest) where
   abbrev cut : LineCut
   cut = record { lead = n; item = 0; tail = m }
 

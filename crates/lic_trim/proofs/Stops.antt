@@ -1,4 +1,4 @@
--- Where no piece can begin at a row any more, nothing beyond is a row.
+-- Where no piece can begin at a sequence any more, nothing beyond is a sequence.
 use Rattle.std.proofs.Common.{◌≡◌, ℕ, zero, suc, ◌+◌, ◌-◌, ◌<◌, ◌≤◌, Bool, true, false, ◌&&◌, ◌||◌, ◌==◌, List, [], ◌∷◌, length, take, reverse, refl, sym, ap, ◌∙◌, subst, ⊎_elim, arith}
 use Rattle.std.specs.Prelude.{slice_range, slice_index, slice_index_or, bytes_eq}
 use Rattle.std.specs.List.{list_any, All}
@@ -6,14 +6,14 @@ use Rattle.std.specs.Char.{is_whitespace}
 use Rattle.std.proofs.lemmas.Bool.{false≢true, and_parts, or_cases, or_left, or_right, cases_Bool, cases_lt}
 use Rattle.std.proofs.lemmas.List.{length-reverse}
 use Rattle.std.proofs.lemmas.Slice.Eq.{bytes_eq-Decides}
-use Rattle.lic_trim.specs.Texts.{is_row, ends_in}
+use Rattle.lic_trim.specs.Texts.{is_sequence, ends_in}
 use Rattle.lic_kind.specs.LineRules.{LineRules}
 use Rattle.lic_trim.specs.Lines.{is_space, is_separator, repeats}
-use Rattle.lic_trim.specs.Walks.{Side, walked, is_walked_piece, side_texts, side_spaced, side_repeated, AreRows, IsRunFront}
+use Rattle.lic_trim.specs.Walks.{Side, walked, is_walked_piece, side_texts, side_spaced, side_repeated, AreSequences, IsStreakFront}
 use Rattle.lic_trim.proofs.PieceEnds.{length_part, slice_at, separator_parts}
 use Rattle.lic_trim.proofs.KindEnds.{space_parts}
 use Rattle.lic_trim.proofs.SideEnds.{walked_piece, repeats_more}
-use Rattle.lic_trim.proofs.RowLemmas.{row_ends, row_goes_on}
+use Rattle.lic_trim.proofs.SequenceLemmas.{sequence_ends, sequence_goes_on}
 use Rattle.lic_trim.proofs.Walking.{length-walked}
 
 pub any_some : {A : Type 0} (test : A → Bool) (xs : List A) (d : A) → list_any test xs ≡ true
@@ -49,9 +49,9 @@ pub record AreShort (rules : LineRules) (side : Side) (reach : ℕ) : Type 0 whe
   pub repeated : All (λ t. length t ≤ reach) (side_repeated rules side)
 
 module _ (rules : LineRules) (side : Side) (flags : List Bool) (line : List ℕ) (end longest reach : ℕ)
-    (rows : AreRows (is_walked_piece rules side) flags line) (count : length flags ≡ end)
-    (front : IsRunFront flags line end end) (short : AreShort rules side reach)
-    (above : (m : ℕ) → longest < m → m < end → is_row (is_walked_piece rules side) (take m line) ≡ false) (far : reach + longest + 1 < end) where
+    (sequences : AreSequences (is_walked_piece rules side) flags line) (count : length flags ≡ end)
+    (front : IsStreakFront flags line end end) (short : AreShort rules side reach)
+    (above : (m : ℕ) → longest < m → m < end → is_sequence (is_walked_piece rules side) (take m line) ≡ false) (far : reach + longest + 1 < end) where
   abbrev pub p : List ℕ → Bool
   p = is_walked_piece rules side
 
@@ -69,7 +69,7 @@ module _ (rules : LineRules) (side : Side) (flags : List Bool) (line : List ℕ)
       (λ before. before)
       (or_cases (bytes_eq rest part) (repeats (c ∷ rest) part) more.1)
 
-  -- a piece from a row to a place beyond can only be a repetition
+  -- a piece from a sequence to a place beyond can only be a repetition
   piece_before : (m j : ℕ) → end ≤ m + 1 → m + 1 ≤ length line → j ≤ longest → slice_index_or flags j false ≡ true
       → p (slice_range line j (m + 1)) ≡ true → p (slice_range line j m) ≡ true
   piece_before m j behind within low flag h =
@@ -116,26 +116,26 @@ module _ (rules : LineRules) (side : Side) (flags : List Bool) (line : List ℕ)
       (or_cases spaced repeated last))
       (or_cases ((is_space x || marks) || texts) (spaced || repeated) (sym (walked_piece rules side x) ∙ h))
 
-  beyond : (n m : ℕ) → m ≤ n → longest < m → m ≤ length line → is_row p (take m line) ≡ false
+  beyond : (n m : ℕ) → m ≤ n → longest < m → m ≤ length line → is_sequence p (take m line) ≡ false
   beyond zero m le more within = absurd (omega arith)
   beyond (suc n) m le more within =
       ⊎_elim
       (λ before. above m more before)
       (λ behind. ⊎_elim
       (λ yes.
-      let e = row_ends p line m (omega arith) within yes in
+      let e = sequence_ends p line m (omega arith) within yes in
       let j = e.0 in
       let below : j < m = e.1 in
       let low : j ≤ longest = ⊎_elim (λ high.
       absurd (false≢true (sym (beyond n j (omega arith) high (omega arith)) ∙ e.2))) (λ fine. fine)
       (cases_lt longest j) in
       let last : m - 1 + 1 ≡ m = omega arith in
-      let piece = piece_before (m - 1) j (omega arith) (omega arith) low (rows.each j (omega arith) ∙ e.2)
+      let piece = piece_before (m - 1) j (omega arith) (omega arith) low (sequences.each j (omega arith) ∙ e.2)
       (subst (λ i. p (slice_range line j i) ≡ true) (sym last) e.3) in
-      absurd (false≢true (sym (beyond n (m - 1) (omega arith) (omega arith) (omega arith)) ∙ row_goes_on p line j (m - 1) (omega arith) e.2 piece)))
+      absurd (false≢true (sym (beyond n (m - 1) (omega arith) (omega arith) (omega arith)) ∙ sequence_goes_on p line j (m - 1) (omega arith) e.2 piece)))
       (λ none. none)
-      (cases_Bool (is_row p (take m line))))
+      (cases_Bool (is_sequence p (take m line))))
       (cases_lt m end)
 
-  pub nothing_beyond : (m : ℕ) → longest < m → m ≤ length line → is_row p (take m line) ≡ false
+  pub nothing_beyond : (m : ℕ) → longest < m → m ≤ length line → is_sequence p (take m line) ≡ false
   nothing_beyond m more within = beyond m m (omega arith) more within

@@ -5,7 +5,7 @@ use Rattle.std.specs.Option.{option_map_or}
 use Rattle.std.specs.Int.{is_in_range}
 use Rattle.std.specs.Char.{is_whitespace, is_ascii_digit, is_ascii_alphabetic}
 use Rattle.lic_kind.specs.Kinds.{is_dash, is_bullet, kind_of, is_mark_kind}
-use Rattle.lic_trim.specs.Texts.{is_row, longest_front, longest_end, ends_in}
+use Rattle.lic_trim.specs.Texts.{is_sequence, longest_front, longest_end, ends_in}
 use Rattle.lic_kind.specs.LineRules.{LineRules}
 pub use Rattle.lic_trim.specs.declared.line_part.LinePart.{LinePart}
 pub use Rattle.lic_trim.specs.declared.cut.LineCut.{LineCut}
@@ -111,7 +111,7 @@ abbrev pub whole_line : LinePart
 whole_line = record { has_front = true; has_end = true; behind = None }
 
 abbrev pub lead_length : LineRules → LinePart → List ℕ → ℕ
-lead_length rules part text = if part.has_front then longest_front (is_row (is_lead_piece rules)) text else 0
+lead_length rules part text = if part.has_front then longest_front (is_sequence (is_lead_piece rules)) text else 0
 
 -- the item at the start of what the lead left
 abbrev pub item_after_lead : LineRules → LinePart → List ℕ → ℕ
@@ -119,7 +119,7 @@ item_after_lead rules part rest = if part.has_front then item_length rules (rest
 
 -- the tail of what lead and item left
 abbrev pub tail_length : LineRules → LinePart → List ℕ → ℕ
-tail_length rules part left = if part.has_end then longest_end (is_row (is_tail_piece rules)) left else 0
+tail_length rules part left = if part.has_end then longest_end (is_sequence (is_tail_piece rules)) left else 0
 
 abbrev pub cut_of : LineRules → LinePart → List ℕ → LineCut
 cut_of rules part text =

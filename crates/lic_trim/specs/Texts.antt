@@ -1,25 +1,25 @@
--- Words on texts, as lists of any kind: rows of pieces, the longest prefix and end that pass, parts and groups.
+-- Words on texts, as lists of any kind: sequences of pieces, the longest prefix and end that pass, parts and groups.
 use Rattle.std.specs.Prelude.{◌≡◌, ℕ, zero, suc, ◌-◌, Bool, true, false, ◌&&◌, ◌||◌, if◌then◌else◌, List, [], ◌∷◌, ◌++◌, length, take, drop, reverse, IsTrue}
 use Rattle.std.specs.List.{list_all, flat_map, onto_first}
 
--- a text is a row of pieces: pieces of this kind, joined end to end, none of them at all included
-abbrev pub IsRow : {A : Type 0} → (List A → Bool) → List A → Type 0
-IsRow {A} is_piece text = (pieces : List (List A)) × IsTrue (list_all is_piece pieces)
+-- a text is a sequence of pieces: pieces of this kind, joined end to end, none of them at all included
+abbrev pub IsSequence : {A : Type 0} → (List A → Bool) → List A → Type 0
+IsSequence {A} is_piece text = (pieces : List (List A)) × IsTrue (list_all is_piece pieces)
     × (flat_map (λ piece. piece) pieces ≡ text)
 
 abbrev pub is_empty : {A : Type 0} → List A → Bool
 is_empty [] = true
 is_empty (x ∷ xs) = false
 
--- whether `front ++ text` is a row whose first piece is longer than `front`; of no text, whether `front` is empty
-abbrev pub is_row_after : {A : Type 0} → (List A → Bool) → List A → List A → Bool
-is_row_after is_piece front [] = is_empty front
-is_row_after is_piece front (c ∷ text) =
-    (is_piece (front ++ c ∷ []) && is_row_after is_piece [] text) || is_row_after is_piece (front ++ c ∷ []) text
+-- whether `front ++ text` is a sequence whose first piece is longer than `front`; of no text, whether `front` is empty
+abbrev pub is_sequence_after : {A : Type 0} → (List A → Bool) → List A → List A → Bool
+is_sequence_after is_piece front [] = is_empty front
+is_sequence_after is_piece front (c ∷ text) =
+    (is_piece (front ++ c ∷ []) && is_sequence_after is_piece [] text) || is_sequence_after is_piece (front ++ c ∷ []) text
 
--- the test that computes `IsRow`
-abbrev pub is_row : {A : Type 0} → (List A → Bool) → List A → Bool
-is_row is_piece text = is_row_after is_piece [] text
+-- the test that computes `IsSequence`
+abbrev pub is_sequence : {A : Type 0} → (List A → Bool) → List A → Bool
+is_sequence is_piece text = is_sequence_after is_piece [] text
 
 -- the greatest number up to n that passes, or 0
 abbrev pub greatest : (ℕ → Bool) → ℕ → ℕ
@@ -46,7 +46,7 @@ join_group together x ([] ∷ groups) = (x ∷ []) ∷ [] ∷ groups
 join_group together x ((y ∷ group) ∷ groups) =
     if together x y then (x ∷ y ∷ group) ∷ groups else (x ∷ []) ∷ (y ∷ group) ∷ groups
 
--- the longest runs of neighbours that belong together
+-- the longest streaks of neighbours that belong together
 abbrev pub groups : {A : Type 0} → (A → A → Bool) → List A → List (List A)
 groups together [] = []
 groups together (x ∷ xs) = join_group together x (groups together xs)

@@ -2,7 +2,7 @@
 use Rattle.std.specs.Prelude.{◌≡◌, ◌≢◌, ℕ, zero, suc, ◌-◌, ◌<◌, ◌≤◌, Bool, true, false, ◌&&◌, ◌||◌, ◌==◌, List, [], ◌∷◌, length, take, reverse, slice_index, slice_index_or, slice_range, bytes_eq}
 use Rattle.std.specs.List.{list_any}
 use Rattle.std.specs.Char.{is_whitespace}
-use Rattle.lic_trim.specs.Texts.{is_row, ends_in}
+use Rattle.lic_trim.specs.Texts.{is_sequence, ends_in}
 use Rattle.lic_kind.specs.LineRules.{LineRules}
 use Rattle.lic_trim.specs.Lines.{is_lead_piece, is_tail_piece, repeats}
 pub use Rattle.lic_kind.specs.Openers.{opens_in}
@@ -67,12 +67,12 @@ abbrev pub ends_piece : (List ℕ → Bool) → List Bool → List ℕ → ℕ �
 ends_piece is_piece flags line end =
     any_below (λ j. slice_index_or flags j false && is_piece (slice_range line j end)) end
 
--- the flags say of each front of the line, up to a length, whether it is a row
-pub record AreRows (is_piece : List ℕ → Bool) (flags : List Bool) (line : List ℕ) : Type 0 where
-  pub each : (k : ℕ) → k < length flags → slice_index_or flags k false ≡ is_row is_piece (take k line)
+-- the flags say of each front of the line, up to a length, whether it is a sequence
+pub record AreSequences (is_piece : List ℕ → Bool) (flags : List Bool) (line : List ℕ) : Type 0 where
+  pub each : (k : ℕ) → k < length flags → slice_index_or flags k false ≡ is_sequence is_piece (take k line)
 
 -- from first on all characters before end are one; no flagged place before it has that, and it is flagged itself
-pub record IsRunFront (flags : List Bool) (line : List ℕ) (end first : ℕ) : Type 0 where
+pub record IsStreakFront (flags : List Bool) (line : List ℕ) (end first : ℕ) : Type 0 where
   pub within : first ≤ end
   pub same : (i : ℕ) → first ≤ i → i < end → slice_index line i ≡ slice_index line (end - 1)
   pub flagged : first < end → slice_index_or flags first false ≡ true

@@ -5,18 +5,18 @@ ghost use Rattle.std.specs.Char.{is_whitespace, is_ascii_digit};
 ghost use Rattle.lic_kind.specs.LineRules.{LineRules, rules_of};
 ghost use Rattle.lic_trim.specs.Leads.{AreLeads};
 ghost use Rattle.lic_trim.specs.Lines.{cut_of, is_item_form, item_length, whole_line};
-ghost use Rattle.lic_trim.specs.Texts.{is_row, longest_front};
+ghost use Rattle.lic_trim.specs.Texts.{is_sequence, longest_front};
 ghost use Rattle.lic_trim.specs.Spaces.{TakesSpaces};
 ghost use Rattle.lic_trim.specs.Walks.{walked, is_walked_piece};
 
-use crate::ascii_rows::row_by_places;
+use crate::ascii_sequences::sequence_by_places;
 use crate::cut::LineCut;
 use crate::item::{is_roman_digit, item_length};
 use crate::leads::Leads;
-use crate::rows::longest_row;
+use crate::sequences::longest_sequence;
 use crate::side::Side;
 use crate::source::{SourceChar, place};
-use crate::space_rows::quick_table;
+use crate::space_sequences::quick_table;
 use lic_kind::Rules;
 use std::alloc::{AllocError, Global};
 
@@ -63,11 +63,11 @@ fn three_alike(side: Side, line: &[u8], place: usize) -> bool
         && byte_at(line, side, place + 2) == byte
 }
 
-/// How long the longest row of pieces is where it is white space alone, as far as the byte after that shows.
+/// How long the longest sequence of pieces is where it is white space alone, as far as the byte after that shows.
 #[inline(always)]
-fn space_row(rules: &Rules, side: Side, line: &[u8]) -> Option<usize>
-    ensures row { IfSome result (λ n. n
-        ≡ longest_front (is_row (is_walked_piece (rules_of rules.now) side))
+fn space_sequence(rules: &Rules, side: Side, line: &[u8]) -> Option<usize>
+    ensures sequence { IfSome result (λ n. n
+        ≡ longest_front (is_sequence (is_walked_piece (rules_of rules.now) side))
         (walked side line.now)) }
     ensures white { IfSome result (λ n. (i : ℕ) → i < n
         → is_whitespace (slice_index (walked side line.now) i) ≡ true) }
@@ -159,10 +159,10 @@ fn has_no_item(line: &[u8]) -> bool
     end >= line.len() || !may_be_item(&line[..end])
 }
 
-/// How long the longest row of pieces is that is at this side of a line: mostly it is white space alone, or a few texts
+/// How long the longest sequence of pieces is that is at this side of a line: mostly it is white space alone, or a few texts
 /// and white space. The characters are room for those of the line, whatever they hold.
 #[inline(always)]
-fn row_of_ascii(
+fn sequence_of_ascii(
     alloc: Global,
     rules: &Rules,
     leads: &Leads,
@@ -173,19 +173,19 @@ fn row_of_ascii(
     requires known { AreLeads leads.now (rules_of rules.now).lead }
     requires ascii { IsAscii line.now }
     requires fits { length line.now < 2 ^ 32 }
-    ensures row { IfOk result (λ n. n
-        ≡ longest_front (is_row (is_walked_piece (rules_of rules.now) side))
+    ensures sequence { IfOk result (λ n. n
+        ≡ longest_front (is_sequence (is_walked_piece (rules_of rules.now) side))
         (walked side line.now)) }
     ensures within { IfOk result (λ n. n ≤ length line.now) }
 {
-    if let Some(count) = space_row(rules, side, line) {
+    if let Some(count) = space_sequence(rules, side, line) {
         return Ok(count);
     }
-    if let Some(count) = row_by_places(rules, leads, side, line) {
+    if let Some(count) = sequence_by_places(rules, leads, side, line) {
         return Ok(count);
     }
     place(characters, 0, line)?;
-    longest_row(alloc, rules, side, characters)
+    longest_sequence(alloc, rules, side, characters)
 }
 
 /// How long the list item is at the start of a line, whose lead is taken already: mostly there is none. The characters are
@@ -213,14 +213,14 @@ fn item_of_ascii(
 pub fn takes_spaces(rules: &Rules, line: &[u8]) -> bool
     ensures { result ≡ true → TakesSpaces (cut_of (rules_of rules.now) whole_line line.now) line.now }
 {
-    let Some(lead) = space_row(rules, Side::Front, line) else {
+    let Some(lead) = space_sequence(rules, Side::Front, line) else {
         return false;
     };
     let rest = &line[lead..];
     if !has_no_item(rest) {
         return false;
     }
-    let Some(_tail) = space_row(rules, Side::End, rest) else {
+    let Some(_tail) = space_sequence(rules, Side::End, rest) else {
         return false;
     };
     true
@@ -243,11 +243,11 @@ pub fn cut_by_leads(
     ensures cut { IfOk result (λ cut. cut ≡ cut_of (rules_of rules.now) whole_line line.now) }
     ensures within { IfOk result (λ cut. cut.lead + cut.item + cut.tail ≤ length line.now) }
 {
-    let lead = row_of_ascii(alloc, rules, leads, Side::Front, line, characters)?;
+    let lead = sequence_of_ascii(alloc, rules, leads, Side::Front, line, characters)?;
     let rest = &line[lead..];
     let item = item_of_ascii(rules, rest, characters)?;
     let left = &rest[item..];
-    let tail = row_of_ascii(alloc, rules, leads, Side::End, left, characters)?;
+    let tail = sequence_of_ascii(alloc, rules, leads, Side::End, left, characters)?;
     Ok(LineCut { lead, item, tail })
 }
 

@@ -8,7 +8,7 @@ use crate::item::item_length;
 use crate::line_part::LinePart;
 use crate::side::Side;
 use crate::source::SourceChar;
-use crate::space_rows::row_length;
+use crate::space_sequences::sequence_length;
 use lic_kind::Rules;
 use std::alloc::{AllocError, Global};
 
@@ -31,7 +31,7 @@ pub fn cut_line(
     ensures within { IfOk result (λ cut. cut.lead + cut.item + cut.tail ≤ length line.now) }
 {
     let lead = if part.has_front {
-        row_length(alloc, rules, Side::Front, line)?
+        sequence_length(alloc, rules, Side::Front, line)?
     } else {
         0
     };
@@ -43,7 +43,7 @@ pub fn cut_line(
     };
     let left = &rest[item..];
     let tail = if part.has_end {
-        row_length(alloc, rules, Side::End, left)?
+        sequence_length(alloc, rules, Side::End, left)?
     } else {
         0
     };

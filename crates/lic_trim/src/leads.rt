@@ -14,7 +14,7 @@ const TEXTS: usize = 64;
 /// Which texts of a lead begin with each character that a byte may be: bit i of its mask is set for text i.
 #[derive(Drop)]
 pub struct Leads {
-    pub(crate) firsts: [u64; 256],
+    pub(crate) firsts: [u64; CHARACTERS],
     /// Whether each text has a bit.
     pub(crate) all: bool,
 }

@@ -2,17 +2,17 @@
 #![tactic(auto)]
 
 mod ascii_cut;
-mod ascii_rows;
+mod ascii_sequences;
 mod ascii_texts;
-pub mod cut;
+mod cut;
 mod item;
 pub mod laws;
-pub mod leads;
-pub mod line_part;
-mod rows;
+mod leads;
+mod line_part;
+mod sequences;
 mod side;
-pub mod source;
-mod space_rows;
+mod source;
+mod space_sequences;
 
 pub use ascii_cut::{cut_by_leads, cut_of_ascii, takes_spaces};
 pub use cut::{LineCut, cut_line};

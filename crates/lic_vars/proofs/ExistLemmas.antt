@@ -5,7 +5,7 @@ use Rattle.std.proofs.lemmas.List.{length-drop}
 use Rattle.lic_words.specs.Words.{Word, blank}
 use Rattle.lic_words.specs.Expressions.{Expression, Language, tidy}
 use Rattle.lic_words.specs.Letters.{letters_in}
-use Rattle.lic_words.specs.Spelling.{Gap, Spells, gapped, row_of}
+use Rattle.lic_words.specs.Spelling.{Gap, Spells, gapped, sequence_of}
 use Rattle.lic_norm.specs.Tokens.{TokenValue}
 use Rattle.lic_markup.specs.Parts.{Nodes}
 use Rattle.lic_set.specs.Sets.{Known}
@@ -218,7 +218,7 @@ found-finishes (suc k) (optional n ∷ ms) h left apart =
 module _ (ns : Nodes) (ts : List (List ℕ)) where
   finishes_by : (q : List ℕ) (w : Word) → Makes (moves ns) q w → Spells w ts → Finishes (moves ns) (gapped ts) false q
   finishes_by q w makes spells =
-      let read = spells-read (gapped ts) w (gapped-letters blank false (row_of ts)) spells in
+      let read = spells-read (gapped ts) w (gapped-letters blank false (sequence_of ts)) spells in
       (w, makes, read.0, read.1)
 
   least_by : Derivation ns ts → Found (Finishes (moves ns) (gapped ts) false) → (r : List ℕ) × LeastOf (moves ns) (λ w. Spells w ts) r
@@ -228,7 +228,7 @@ module _ (ns : Nodes) (ts : List (List ℕ)) where
     record {
       word = h.is.0;
       makes = h.is.1;
-      is = read-spells h.is.0 (gapped ts) h.is.2 (gapped-letters blank false (row_of ts)) h.is.3;
+      is = read-spells h.is.0 (gapped ts) h.is.2 (gapped-letters blank false (sequence_of ts)) h.is.3;
       least = λ q w makes spells. h.least q (finishes_by q w makes spells);
     },
   )

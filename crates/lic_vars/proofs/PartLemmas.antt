@@ -9,11 +9,11 @@ use Rattle.lic_ere.specs.Trees.{tree_of}
 use Rattle.lic_ere.specs.declared.ere.Ere.{Ere}
 use Rattle.lic_markup.specs.declared.part.Part.{Part, Part-F, fold-roll-Part}
 use Rattle.lic_markup.specs.declared.part.Part.TheVariants.{Text, Var, Optional, rolls-Text, rolls-Var, rolls-Optional}
-use Rattle.lic_markup.specs.Parts.{Node, Nodes, one_more, row, part_of, part_node}
+use Rattle.lic_markup.specs.Parts.{Node, Nodes, one_more, sequence, part_of, part_node}
 use Rattle.lic_markup.specs.Parts as parts
 use Rattle.lic_markup.specs.Meaning.{tree_words}
 use Rattle.lic_markup.specs.PartTexts.{HasPieceTexts, HavePieceTexts}
-use Rattle.lic_norm.specs.PieceTexts.{IsPieceText}
+use Rattle.lic_pieces.specs.PieceTexts.{IsPieceText}
 use Rattle.lic_vars.specs.Moves.{Move, text, variable, optional, moves}
 use Rattle.lic_vars.specs.Cuts.{move_of, moves_of, IsPiece}
 use Rattle.lic_vars.specs.declared.steps.Step.{Step}
@@ -25,32 +25,32 @@ part_of_Var : (name original : String Global) (ere : Ere)
     → part_of (Var name original ere) ≡ parts.variable (string_bytes name) (string_bytes original) (tree_of ere)
 part_of_Var name original ere = ap part_of (sym (rolls-Var name original ere)) ∙ fold-roll-Part Node part_node (Part-F.Var name original ere)
 
-part_of_Optional : (body : Vec Part Global) → part_of (Optional body) ≡ parts.optional (row (map part_of body.items))
+part_of_Optional : (body : Vec Part Global) → part_of (Optional body) ≡ parts.optional (sequence (map part_of body.items))
 part_of_Optional body = ap part_of (sym (rolls-Optional body)) ∙ fold-roll-Part Node part_node (Part-F.Optional body)
 
 module _ (all : List Part) (i : ℕ) (p : Part) (h : i < length all) (e : p ≡ get_or all i p) where
   more : drop i all ≡ p ∷ drop (i + 1) all
   more = drop_more all i p h ∙ ap (λ (y : Part). y ∷ drop (i + 1) all) (sym e)
 
-  row_more : (n : Node) → part_of p ≡ n → row (map part_of (drop i all)) ≡ one_more n (row (map part_of (drop (i + 1) all)))
-  row_more n q = ap (λ (s : List Part). row (map part_of s)) more ∙ ap (λ (m : Node). one_more m (row (map part_of (drop (i + 1) all)))) q
+  sequence_more : (n : Node) → part_of p ≡ n → sequence (map part_of (drop i all)) ≡ one_more n (sequence (map part_of (drop (i + 1) all)))
+  sequence_more n q = ap (λ (s : List Part). sequence (map part_of s)) more ∙ ap (λ (m : Node). one_more m (sequence (map part_of (drop (i + 1) all)))) q
 
   pub more-Text : (t : String Global) → p ≡ Text t →
-      moves (row (map part_of (drop i all))) ≡ text (chars (string_bytes t)) ∷ moves (row (map part_of (drop (i + 1) all)))
-  more-Text t q = ap moves (row_more (parts.letters (string_bytes t)) (ap part_of q ∙ part_of_Text t))
+      moves (sequence (map part_of (drop i all))) ≡ text (chars (string_bytes t)) ∷ moves (sequence (map part_of (drop (i + 1) all)))
+  more-Text t q = ap moves (sequence_more (parts.letters (string_bytes t)) (ap part_of q ∙ part_of_Text t))
 
   pub more-Var : (name original : String Global) (ere : Ere) → p ≡ Var name original ere →
-      moves (row (map part_of (drop i all))) ≡ variable (string_bytes name) (tree_words (tree_of ere)) ∷ moves (row (map part_of (drop (i + 1) all)))
+      moves (sequence (map part_of (drop i all))) ≡ variable (string_bytes name) (tree_words (tree_of ere)) ∷ moves (sequence (map part_of (drop (i + 1) all)))
   more-Var name original ere q =
-      ap moves (row_more (parts.variable (string_bytes name) (string_bytes original) (tree_of ere)) (ap part_of q ∙ part_of_Var name original ere))
+      ap moves (sequence_more (parts.variable (string_bytes name) (string_bytes original) (tree_of ere)) (ap part_of q ∙ part_of_Var name original ere))
 
   pub more-Optional : (body : Vec Part Global) → p ≡ Optional body →
-      moves (row (map part_of (drop i all)))
-      ≡ optional (length (moves (row (map part_of body.items)))) ∷ (moves (row (map part_of body.items)) ++ moves (row (map part_of (drop (i + 1) all))))
-  more-Optional body q = ap moves (row_more (parts.optional (row (map part_of body.items))) (ap part_of q ∙ part_of_Optional body))
+      moves (sequence (map part_of (drop i all)))
+      ≡ optional (length (moves (sequence (map part_of body.items)))) ∷ (moves (sequence (map part_of body.items)) ++ moves (sequence (map part_of (drop (i + 1) all))))
+  more-Optional body q = ap moves (sequence_more (parts.optional (sequence (map part_of body.items))) (ap part_of q ∙ part_of_Optional body))
 
-pub moves-done : (all : List Part) (i : ℕ) → length all ≤ i → moves (row (map part_of (drop i all))) ≡ []
-moves-done all i h = ap (λ (s : List Part). moves (row (map part_of s))) (drop_all i all h)
+pub moves-done : (all : List Part) (i : ℕ) → length all ≤ i → moves (sequence (map part_of (drop i all))) ≡ []
+moves-done all i h = ap (λ (s : List Part). moves (sequence (map part_of s))) (drop_all i all h)
 
 pub pushed : (a b : List Step) (x : Step) (m : Move) (rest whole : List Move) → b ≡ a ++ x ∷ [] → move_of x ≡ m → whole ≡ m ∷ rest →
     moves_of b ++ rest ≡ moves_of a ++ whole
@@ -74,20 +74,20 @@ pieces-appended a b c e h k = subst (All IsPiece) (sym e) (All-append IsPiece a 
 
 -- ---- the texts of parts
 
-texts-one : (all : List Part) (i : ℕ) (d : Part) → i < length all → HavePieceTexts (row (map part_of all)) → HasPieceTexts (part_of (get_or all i d))
+texts-one : (all : List Part) (i : ℕ) (d : Part) → i < length all → HavePieceTexts (sequence (map part_of all)) → HasPieceTexts (part_of (get_or all i d))
 texts-one [] i d below texts = absurd (omega arith)
 texts-one (p ∷ all) zero d below texts = texts.0
 texts-one (p ∷ all) (suc i) d below texts = texts-one all i d (omega arith) texts.1
 
 pub text-piece : (all : List Part) (i : ℕ) (p : Part) → i < length all → p ≡ get_or all i p → (t : String Global) → p ≡ Text t
-    → HavePieceTexts (row (map part_of all)) → {text_is : List ℕ} → text_is ≡ string_bytes t → IsPieceText text_is
+    → HavePieceTexts (sequence (map part_of all)) → {text_is : List ℕ} → text_is ≡ string_bytes t → IsPieceText text_is
 text-piece all i p below is t same texts {text_is} value =
     let one : HasPieceTexts (part_of (Text t)) = subst (λ (x : Part). HasPieceTexts (part_of x)) same (subst (λ (x : Part). HasPieceTexts (part_of x)) (sym is) (texts-one all i p below texts)) in
     let here : HasPieceTexts (parts.letters (string_bytes t)) = subst HasPieceTexts (part_of_Text t) one in
     subst IsPieceText (sym value) here.2
 
 pub body-texts : (all : List Part) (i : ℕ) (p : Part) → i < length all → p ≡ get_or all i p → (body : Vec Part Global) → p ≡ Optional body
-    → HavePieceTexts (row (map part_of all)) → HavePieceTexts (row (map part_of body.items))
+    → HavePieceTexts (sequence (map part_of all)) → HavePieceTexts (sequence (map part_of body.items))
 body-texts all i p below is body same texts =
     let one : HasPieceTexts (part_of (Optional body)) = subst (λ (x : Part). HasPieceTexts (part_of x)) same (subst (λ (x : Part). HasPieceTexts (part_of x)) (sym is) (texts-one all i p below texts)) in
     subst HasPieceTexts (part_of_Optional body) one

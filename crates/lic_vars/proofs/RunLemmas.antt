@@ -165,9 +165,9 @@ pub values-run : (set : List Known) (tokens : List TokenValue) (t : Triple) (val
     AreValues set tokens t values → Contains values value → value.span ≡ Some span → RunsFrom tokens t span
 values-run set tokens t values value span v h e =
     let here : List TokenValue = slice_range tokens t.first (t.last + 1) in
-    let row : values ≡ recorded 0 (moves (nodes_of v.known)) (record_of (nodes_of v.known) v.derivation.choice) (letter_spans here) =
+    let sequence : values ≡ recorded 0 (moves (nodes_of v.known)) (record_of (nodes_of v.known) v.derivation.choice) (letter_spans here) =
     v.same ∙ choice-recorded (nodes_of v.known) v.derivation.choice (letter_spans here) in
     range_runs tokens t span
     (covers_runs here span
     (recorded_covers 0 (moves (nodes_of v.known)) (record_of (nodes_of v.known) v.derivation.choice) (letter_spans here) value span
-    (subst (λ (vs : List Assigned). Contains vs value) row h) e))
+    (subst (λ (vs : List Assigned). Contains vs value) sequence h) e))

@@ -1,4 +1,4 @@
--- The words that a row of moves makes, and the least record of one of them.
+-- The words that a sequence of moves makes, and the least record of one of them.
 use Rattle.std.specs.Prelude.{◌≡◌, ℕ, List, [], ◌∷◌, ◌++◌, drop}
 use Rattle.lic_words.specs.Words.{Word}
 use Rattle.lic_words.specs.Expressions.{Expression, tidy, Language}

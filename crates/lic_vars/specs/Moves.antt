@@ -1,4 +1,4 @@
--- A template as a row of moves.
+-- A template as a sequence of moves.
 use Rattle.std.specs.Prelude.{ℕ, List, [], ◌∷◌, ◌++◌, length, chars}
 use Rattle.lic_words.specs.Words.{Word}
 use Rattle.lic_words.specs.Expressions.{Expression}

@@ -2,7 +2,7 @@
 use Rattle.std.specs.Prelude.{◌≡◌, ℕ, ◌+◌, ◌≤◌, List, [], ◌∷◌, ◌++◌, map, take, drop, replicate, Option, Some, None, chars, slice_get, slice_index_or, slice_range}
 use Rattle.lic_norm.specs.Tokens.{TokenValue}
 use Rattle.lic_norm.specs.declared.token.Span.{Span}
-use Rattle.lic_markup.specs.Parts.{Nodes, no_node, one_more, letters, variable, optional, part_of, row}
+use Rattle.lic_markup.specs.Parts.{Nodes, no_node, one_more, letters, variable, optional, part_of, sequence}
 use Rattle.lic_set.specs.Sets.{Known}
 use Rattle.lic_set.specs.Matches.{letters_between}
 use Rattle.lic_set.specs.declared.triple.Triple.{Triple}
@@ -51,7 +51,7 @@ choice_values (one_more (optional body) rest) (Some b, d) spans =
 
 -- a template's parts as nodes
 abbrev pub nodes_of : Known → Nodes
-nodes_of known = row (map part_of known.template.parts)
+nodes_of known = sequence (map part_of known.template.parts)
 
 -- the values of a derivation of the least record of a match
 pub record AreValues (set : List Known) (tokens : List TokenValue) (t : Triple) (values : List Assigned) : Type 0 where

@@ -2,7 +2,7 @@
 
 ghost use Rattle.std.specs.Prelude.{◌≡◌, map, IfOk};
 ghost use Rattle.std.specs.List.{All};
-ghost use Rattle.lic_markup.specs.Parts.{row, part_of};
+ghost use Rattle.lic_markup.specs.Parts.{sequence, part_of};
 ghost use Rattle.lic_markup.specs.PartTexts.{HavePieceTexts};
 ghost use Rattle.lic_vars.specs.Moves.{moves};
 ghost use Rattle.lic_vars.specs.Cuts.{moves_of, IsPiece};
@@ -29,9 +29,9 @@ pub enum Step<'s> {
 
 /// The steps of the parts.
 pub fn steps_of<'s>(alloc: Global, parts: &'s [Part]) -> Result<Vec<Step<'s>>, AllocError>
-    requires { HavePieceTexts (row (map part_of parts.now)) }
+    requires { HavePieceTexts (sequence (map part_of parts.now)) }
     ensures moves { IfOk result (λ steps. moves_of steps.items
-        ≡ moves (row (map part_of parts.now))) }
+        ≡ moves (sequence (map part_of parts.now))) }
     ensures pieces { IfOk result (λ steps. All IsPiece steps.items) }
 {
     let mut steps = Vec::new(alloc);

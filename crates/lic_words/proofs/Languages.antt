@@ -1,4 +1,4 @@
--- The words that rows of expressions denote.
+-- The words that sequences of expressions denote.
 use Rattle.std.proofs.Common.{◌≡◌, ◌≢◌, ℕ, zero, suc, ◌≤◌, All, List, [], ◌∷◌, ◌++◌, Option, Some, None, length, replicate, inl, inr, map, eq-eqb, eqb-true, refl, sym, ap, ◌∙◌, subst, append_assoc, append-nil}
 use Rattle.std.specs.List.{concat}
 use Rattle.std.proofs.lemmas.List.{length-replicate}
@@ -24,18 +24,18 @@ pub texts_complete : (texts : List Word) → Language (cat_all (map letters text
 texts_complete [] = refl
 texts_complete (t ∷ texts) = (t, concat texts, letters_complete t, texts_complete texts, refl)
 
-pub rows_sound : (xs ys : List Expression) (w : Word) → Language (cat_all (xs ++ ys)) w →
+pub sequences_sound : (xs ys : List Expression) (w : Word) → Language (cat_all (xs ++ ys)) w →
     Cat (Language (cat_all xs)) (Language (cat_all ys)) w
-rows_sound [] ys w h = ([], w, refl, h, refl)
-rows_sound (x ∷ xs) ys w (u, v, p, q, e) =
-    let (a, b, r, s, f) = rows_sound xs ys v q in
+sequences_sound [] ys w h = ([], w, refl, h, refl)
+sequences_sound (x ∷ xs) ys w (u, v, p, q, e) =
+    let (a, b, r, s, f) = sequences_sound xs ys v q in
     (u ++ a, b, (u, a, p, r, refl), s, e ∙ ap (λ y. u ++ y) f ∙ sym (append_assoc u a b))
 
-pub rows_complete : (xs ys : List Expression) (w : Word) → Cat (Language (cat_all xs)) (Language (cat_all ys)) w →
+pub sequences_complete : (xs ys : List Expression) (w : Word) → Cat (Language (cat_all xs)) (Language (cat_all ys)) w →
     Language (cat_all (xs ++ ys)) w
-rows_complete [] ys w (u, v, p, q, e) = subst (Language (cat_all ys)) (sym (e ∙ ap (λ x. x ++ v) p)) q
-rows_complete (x ∷ xs) ys w (u, v, (a, b, p, r, f), q, e) =
-    (a, b ++ v, p, rows_complete xs ys (b ++ v) (b, v, r, q, refl), e ∙ ap (λ y. y ++ v) f ∙ append_assoc a b v)
+sequences_complete [] ys w (u, v, p, q, e) = subst (Language (cat_all ys)) (sym (e ∙ ap (λ x. x ++ v) p)) q
+sequences_complete (x ∷ xs) ys w (u, v, (a, b, p, r, f), q, e) =
+    (a, b ++ v, p, sequences_complete xs ys (b ++ v) (b, v, r, q, refl), e ∙ ap (λ y. y ++ v) f ∙ append_assoc a b v)
 
 pub optional_sound : (a : Expression) (w : Word) → Language (alt empty (cat_all (alt empty a ∷ []))) w → Language (alt empty a) w
 optional_sound a w (inl h) = inl h

@@ -1,4 +1,4 @@
-pub mod Rows
+pub mod Sequences
 pub mod Languages
 pub mod Spellings
 pub mod Tokens

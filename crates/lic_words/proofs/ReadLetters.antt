@@ -6,7 +6,7 @@ use Rattle.std.proofs.lemmas.Str.{chars_past_char, chars-nil, encodes-chars}
 use Rattle.lic_words.specs.Words.{blank}
 use Rattle.lic_words.specs.Letters.{is_word}
 use Rattle.lic_words.specs.Spelling.{gap_of, gapped_from, last_letter, apart_after}
-use Rattle.lic_words.proofs.Rows.{gapped_from-blank, gapped_from-letter, last_letter-blank, last_letter-letter, apart_after-some}
+use Rattle.lic_words.proofs.Sequences.{gapped_from-blank, gapped_from-letter, last_letter-blank, last_letter-letter, apart_after-some}
 
 -- nothing is left of the text
 pub none_left : (bs : List ℕ) → length bs ≡ 0 → chars bs ≡ []

@@ -7,7 +7,7 @@ use Rattle.std.proofs.lemmas.Str.{chars-append, chars_past_char, chars-nil, IsUt
 use Rattle.lic_words.specs.Words.{blank}
 use Rattle.lic_words.specs.Letters.{is_word}
 use Rattle.lic_words.specs.Spelling.{gap_of, gapped_from, last_letter}
-use Rattle.lic_words.proofs.Rows.{gapped_from-blank, gapped_from-letter, last_letter-blank, last_letter-letter}
+use Rattle.lic_words.proofs.Sequences.{gapped_from-blank, gapped_from-letter, last_letter-blank, last_letter-letter}
 
 module _ (last : ℕ) (apart : Bool) (bs front : List ℕ) (c : ℕ) (scalar : IsScalar c) (text : IsUtf8 front) (came : bs ≡ front ++ encode_utf8 c) where
   one_char : chars (encode_utf8 c) ≡ c ∷ []

@@ -14,13 +14,13 @@ reversed_expression-reversed_expression (alt a b) = λ i. alt (reversed_expressi
 reversed_expression-reversed_expression (repeat min max a) = ap (repeat min max) (reversed_expression-reversed_expression a)
 reversed_expression-reversed_expression (tidy a) = ap tidy (reversed_expression-reversed_expression a)
 
--- one word more after a row of words
+-- one word more after a sequence of words
 Power-push : (P : Word → Type 0) (n : ℕ) (u v : Word) → Power P n u → P v → Power P (suc n) (u ++ v)
 Power-push P zero u v h p = (v, [], p, refl, ap (λ x. x ++ v) h ∙ sym (append-nil v))
 Power-push P (suc n) w v (u, rest, p, q, e) last =
     (u, rest ++ v, p, Power-push P n rest v q last, ap (λ x. x ++ v) e ∙ append_assoc u rest v)
 
--- the words of a row from the last to the first, each from its end
+-- the words of a sequence from the last to the first, each from its end
 Power-reversed_expression : (P Q : Word → Type 0) → ((w : Word) → P w → Q (reverse w)) → (n : ℕ) (w : Word) → Power P n w → Power Q n (reverse w)
 Power-reversed_expression P Q f zero w h = ap reverse h
 Power-reversed_expression P Q f (suc n) w (u, v, p, q, e) =

@@ -6,7 +6,7 @@ use Rattle.std.proofs.lemmas.List.Elements.{filter-append}
 use Rattle.lic_words.specs.Words.{Word, blank, blanks}
 use Rattle.lic_kind.specs.Kinds.{kind_of}
 use Rattle.lic_words.specs.Letters.{is_word}
-use Rattle.lic_words.specs.Spelling.{Gap, gap_of, free, gapped, gapped_from, row_of, Spells, SpellsGapped}
+use Rattle.lic_words.specs.Spelling.{Gap, gap_of, free, gapped, gapped_from, sequence_of, Spells, SpellsGapped}
 
 abbrev Gapped : Type 0
 Gapped = List (Gap × ℕ)
@@ -27,11 +27,11 @@ is_letter c = not (c == blank)
 not_blank : (c : ℕ) → (c == blank) ≡ false → c ≡ blank → ⊥
 not_blank c h e = let t = eq-eqb c blank e in cc
 
-HasNoBlank-from : (last : ℕ) (apart : Bool) (row : List ℕ) → HasNoBlank (gapped_from last apart row)
+HasNoBlank-from : (last : ℕ) (apart : Bool) (sequence : List ℕ) → HasNoBlank (gapped_from last apart sequence)
 HasNoBlank-from last apart [] = tt
-HasNoBlank-from last apart (c ∷ row) = by_letter (λ l a. HasNoBlank-from l a row) (c == blank) refl
+HasNoBlank-from last apart (c ∷ sequence) = by_letter (λ l a. HasNoBlank-from l a sequence) (c == blank) refl
   where
-    by_letter : ((l : ℕ) (a : Bool) → HasNoBlank (gapped_from l a row)) → (b : Bool) → (c == blank) ≡ b → HasNoBlank (gapped_from last apart (c ∷ row))
+    by_letter : ((l : ℕ) (a : Bool) → HasNoBlank (gapped_from l a sequence)) → (b : Bool) → (c == blank) ≡ b → HasNoBlank (gapped_from last apart (c ∷ sequence))
     by_letter rest true h = rw h (rest last true)
     by_letter rest false h = rw h (not_blank c h, rest c false)
 
@@ -40,17 +40,17 @@ pub gap-behind_blank : (c : ℕ) → gap_of true (is_word blank && is_word c) �
 unfolding kind_of
 gap-behind_blank c = refl
 
-BeginsFree-from : (row : List ℕ) → BeginsFree (gapped_from blank true row)
+BeginsFree-from : (sequence : List ℕ) → BeginsFree (gapped_from blank true sequence)
 BeginsFree-from [] = tt
-BeginsFree-from (c ∷ row) = by_letter (BeginsFree-from row) (c == blank) refl
+BeginsFree-from (c ∷ sequence) = by_letter (BeginsFree-from sequence) (c == blank) refl
   where
-    by_letter : BeginsFree (gapped_from blank true row) → (b : Bool) → (c == blank) ≡ b → BeginsFree (gapped_from blank true (c ∷ row))
+    by_letter : BeginsFree (gapped_from blank true sequence) → (b : Bool) → (c == blank) ≡ b → BeginsFree (gapped_from blank true (c ∷ sequence))
     by_letter rest true h = rw h rest
     by_letter rest false h = rw h (gap-behind_blank c)
 
 BeginsFree-gapped : (ts : List (List ℕ)) → BeginsFree (gapped ts)
 BeginsFree-gapped [] = tt
-BeginsFree-gapped (t ∷ ts) = BeginsFree-from (t ++ row_of ts)
+BeginsFree-gapped (t ∷ ts) = BeginsFree-from (t ++ sequence_of ts)
 
 -- ---- the letters
 
@@ -71,24 +71,24 @@ filter-spelling w (p ∷ rest) (other, h) (n, allows, v, e, s) =
     ap (filter is_letter) e ∙ filter-blanks n (p.1 ∷ v) ∙ filter-letter p.1 v (ne_eqb p.1 blank other)
     ∙ ap (λ x. p.1 ∷ x) (filter-spelling v rest h s)
 
-filter-row : (last : ℕ) (apart : Bool) (row : List ℕ) → map (λ p. p.1) (gapped_from last apart row) ≡ filter is_letter row
-filter-row last apart [] = refl
-filter-row last apart (c ∷ row) = by_letter (λ l a. filter-row l a row) (c == blank) refl
+filter-sequence : (last : ℕ) (apart : Bool) (sequence : List ℕ) → map (λ p. p.1) (gapped_from last apart sequence) ≡ filter is_letter sequence
+filter-sequence last apart [] = refl
+filter-sequence last apart (c ∷ sequence) = by_letter (λ l a. filter-sequence l a sequence) (c == blank) refl
   where
-    by_letter : ((l : ℕ) (a : Bool) → map (λ p. p.1) (gapped_from l a row) ≡ filter is_letter row) → (b : Bool) → (c == blank) ≡ b →
-        map (λ p. p.1) (gapped_from last apart (c ∷ row)) ≡ filter is_letter (c ∷ row)
+    by_letter : ((l : ℕ) (a : Bool) → map (λ p. p.1) (gapped_from l a sequence) ≡ filter is_letter sequence) → (b : Bool) → (c == blank) ≡ b →
+        map (λ p. p.1) (gapped_from last apart (c ∷ sequence)) ≡ filter is_letter (c ∷ sequence)
     by_letter rest true h = rw h (rest last true)
     by_letter rest false h = rw h (ap (λ x. c ∷ x) (rest c false))
 
-filter-row_of : (ts : List (List ℕ)) → filter is_letter (row_of ts) ≡ filter is_letter (concat ts)
-filter-row_of [] = refl
-filter-row_of (t ∷ ts) =
-    filter-append is_letter t (row_of ts) ∙ ap (λ x. filter is_letter t ++ x) (filter-row_of ts)
+filter-sequence_of : (ts : List (List ℕ)) → filter is_letter (sequence_of ts) ≡ filter is_letter (concat ts)
+filter-sequence_of [] = refl
+filter-sequence_of (t ∷ ts) =
+    filter-append is_letter t (sequence_of ts) ∙ ap (λ x. filter is_letter t ++ x) (filter-sequence_of ts)
     ∙ sym (filter-append is_letter t (concat ts))
 
 pub Spells-letters : (w : Word) (ts : List (List ℕ)) → Spells w ts → filter is_letter w ≡ filter is_letter (concat ts)
 Spells-letters w ts s =
-    filter-spelling w (gapped ts) (HasNoBlank-from blank false (row_of ts)) s ∙ filter-row blank false (row_of ts) ∙ filter-row_of ts
+    filter-spelling w (gapped ts) (HasNoBlank-from blank false (sequence_of ts)) s ∙ filter-sequence blank false (sequence_of ts) ∙ filter-sequence_of ts
 
 -- ---- a blank more at an end
 
@@ -106,7 +106,7 @@ not_before w ((gap, c) ∷ rest) h f (suc n, allows, v, e, s) =
 pub Spells-before : (w : Word) (ts : List (List ℕ)) → Spells w ts ↔ Spells (blank ∷ w) ts
 Spells-before w ts = (
   before w (gapped ts) (BeginsFree-gapped ts),
-  not_before w (gapped ts) (HasNoBlank-from blank false (row_of ts)) (BeginsFree-gapped ts),
+  not_before w (gapped ts) (HasNoBlank-from blank false (sequence_of ts)) (BeginsFree-gapped ts),
 )
 
 behind : (w : Word) (gaps : Gapped) → SpellsGapped w gaps → SpellsGapped (w ++ blank ∷ []) gaps
@@ -148,5 +148,5 @@ not_behind w (p ∷ rest) (other, h) (n, allows, v, e, s) =
 pub Spells-behind : (w : Word) (ts : List (List ℕ)) → Spells w ts ↔ Spells (w ++ blank ∷ []) ts
 Spells-behind w ts = (
   behind w (gapped ts),
-  not_behind w (gapped ts) (HasNoBlank-from blank false (row_of ts)),
+  not_behind w (gapped ts) (HasNoBlank-from blank false (sequence_of ts)),
 )

@@ -5,8 +5,8 @@ use Rattle.std.proofs.lemmas.List.Elements.{All-head, All-tail, All-cons, All-pu
 use Rattle.lic_words.specs.Words.{Word, blank, blanks}
 use Rattle.lic_kind.specs.Kinds.{kind_of}
 use Rattle.lic_words.specs.Letters.{is_word}
-use Rattle.lic_words.specs.Spelling.{Allows, gap_of, gapped_from, last_letter, row_of, Spells, SpellsGapped}
-use Rattle.lic_words.proofs.Rows.{gapped_from-letter, last_letter-letter}
+use Rattle.lic_words.specs.Spelling.{Allows, gap_of, gapped_from, last_letter, sequence_of, Spells, SpellsGapped}
+use Rattle.lic_words.proofs.Sequences.{gapped_from-letter, last_letter-letter}
 use Rattle.lic_words.proofs.Spellings.{gap-behind_blank}
 
 abbrev IsNoBlank : ℕ → Type 0
@@ -92,7 +92,7 @@ module _ (c : ℕ) (t : Word) (b : ℕ) (u : Word) (h : HasNone (c ∷ t)) (k : 
     (words : is_word (last_letter c t) && is_word b ≡ true) where
   apart : (w : Word) → Spells w ((c ∷ t) ∷ (b ∷ u) ∷ []) → Apart (c ∷ t) (b ∷ u) w
   apart w s =
-      let (before, allows, v, e, r) = behind_gap blank c t (row_of ((b ∷ u) ∷ [])) h w s in
+      let (before, allows, v, e, r) = behind_gap blank c t (sequence_of ((b ∷ u) ∷ [])) h w s in
       let (between, needed, x, f, (behind, g)) = behind_gap (last_letter c t) b u [] k v r in
       let some : 1 ≤ between = rw words at needed in (
         before,
@@ -107,9 +107,9 @@ module _ (c : ℕ) (t : Word) (b : ℕ) (u : Word) (h : HasNone (c ∷ t)) (k : 
   written_apart w (before, between, behind, some, e) =
       let needed : Allows (gap_of true (is_word (last_letter c t) && is_word b)) between = rw words some in
       let second = written_behind_gap (last_letter c t) b u [] k between (blanks behind) needed (behind, refl) in
-      let row = e ∙ in_a_row (blanks before) (c ∷ t) (blanks between) (b ∷ u) (blanks behind) in
-      subst (λ x. Spells x ((c ∷ t) ∷ (b ∷ u) ∷ [])) (sym row)
-      (written_behind_gap blank c t (row_of ((b ∷ u) ∷ [])) h before (blanks between ++ ((b ∷ u) ++ blanks behind)) (free_before c before) second)
+      let sequence = e ∙ in_a_row (blanks before) (c ∷ t) (blanks between) (b ∷ u) (blanks behind) in
+      subst (λ x. Spells x ((c ∷ t) ∷ (b ∷ u) ∷ [])) (sym sequence)
+      (written_behind_gap blank c t (sequence_of ((b ∷ u) ∷ [])) h before (blanks between ++ ((b ∷ u) ++ blanks behind)) (free_before c before) second)
 
 last_letter-push : (last : ℕ) (t : Word) (a : ℕ) → IsNoBlank a → last_letter last (t ++ a ∷ []) ≡ a
 last_letter-push last [] a h = last_letter-letter last false a [] (ne_eqb a blank h)
@@ -136,5 +136,5 @@ Spells-apart (c ∷ t) u a b w h k i j =
 
 pub Spells-blank : (t u w : Word) (ts : List Word) → Spells w ((t ++ blank ∷ u) ∷ ts) ↔ Spells w (t ∷ u ∷ ts)
 Spells-blank t u w ts =
-    let same : row_of ((t ++ blank ∷ u) ∷ ts) ≡ row_of (t ∷ u ∷ ts) = ap (λ x. blank ∷ x) (append_assoc t (blank ∷ u) (row_of ts)) in
+    let same : sequence_of ((t ++ blank ∷ u) ∷ ts) ≡ sequence_of (t ∷ u ∷ ts) = ap (λ x. blank ∷ x) (append_assoc t (blank ∷ u) (sequence_of ts)) in
     (λ s. subst (λ x. SpellsGapped w (gapped_from blank false x)) same s, λ s. subst (λ x. SpellsGapped w (gapped_from blank false x)) (sym same) s)

@@ -4,7 +4,7 @@ use Rattle.std.proofs.lemmas.Bool.{cases_Bool}
 use Rattle.std.proofs.lemmas.List.{reverse-append, reverse-reverse}
 use Rattle.lic_words.specs.Words.{Word, blank, blanks}
 use Rattle.lic_words.specs.Letters.{is_word}
-use Rattle.lic_words.specs.Spelling.{Gap, free, gap_of, gapped_from, Allows, SpellsGapped, row_of, gapped, Spells, last_letter, apart_after}
+use Rattle.lic_words.specs.Spelling.{Gap, free, gap_of, gapped_from, Allows, SpellsGapped, sequence_of, gapped, Spells, last_letter, apart_after}
 use Rattle.lic_words.specs.Expressions.{Expression}
 use Rattle.lic_words.specs.Describing.{IsDescribed}
 use Rattle.lic_words.specs.Reversal.{reversed_expression, reversed_tokens}
@@ -64,8 +64,8 @@ Behind-reversed (p ∷ rest) w (n, a, v, e, s) =
     let word : reverse w ≡ reverse v ++ blanks n ++ p.1 ∷ [] =
     ap reverse e ∙ reverse-append (p.1 ∷ []) (blanks n ++ v)
     ∙ ap (λ t. t ++ p.1 ∷ []) (reverse-append (blanks n) v ∙ ap (λ t. reverse v ++ t) (reverse-blanks n)) in
-    let row : reverse (p ∷ rest) ≡ reverse rest ++ p ∷ [] = reverse-append (p ∷ []) rest in
-    rw (row, word) whole
+    let sequence : reverse (p ∷ rest) ≡ reverse rest ++ p ∷ [] = reverse-append (p ∷ []) rest in
+    rw (sequence, word) whole
 
 -- the blanks before the first letter, and the rest letter by letter
 to_behind : (p : Gap × ℕ) (rest : List (Gap × ℕ)) (w : Word) → SpellsGapped w (p ∷ rest)
@@ -95,7 +95,7 @@ behind-first : (g h : Gap) (c : ℕ) (F : List (Gap × ℕ)) → behind ((g, c) 
 behind-first g h c [] = refl
 behind-first g h c (q ∷ rest) = refl
 
--- the letter before and the blanks before a row say its first gap alone
+-- the letter before and the blanks before a sequence say its first gap alone
 behind-any : (l m : ℕ) (a b : Bool) (xs : List ℕ) → behind (gapped_from l a xs) ≡ behind (gapped_from m b xs)
 behind-any l m a b [] = refl
 behind-any l m a b (c ∷ xs) = elim (cases_Bool (c == blank)) [
@@ -175,7 +175,7 @@ head-is c (d ∷ xs) =
       | inr e ↦ rw e (ap (λ b. gap_of false b) (and-reversed_tokens (is_word c) (is_word d)))
     ])
 
--- the gaps of a row read from its end
+-- the gaps of a sequence read from its end
 pub gapped-reversed : (xs : List ℕ) → gapped_from blank true (reverse xs) ≡ mirror (gapped_from blank true xs)
 gapped-reversed [] = refl
 gapped-reversed (c ∷ xs) = elim (cases_Bool (c == blank)) [
@@ -193,32 +193,32 @@ gapped-reversed (c ∷ xs) = elim (cases_Bool (c == blank)) [
       ∙ sym (mirror-cons (gap_of true (is_word blank && is_word c), c) F) ∙ rw e refl
 ]
 
-row-snoc : (us : List (List ℕ)) (t : List ℕ) → row_of (us ++ t ∷ []) ≡ row_of us ++ blank ∷ t
-row-snoc [] t = ap (λ s. blank ∷ s) (append-nil t)
-row-snoc (u ∷ us) t = ap (λ s. blank ∷ u ++ s) (row-snoc us t) ∙ simp append_assoc
+sequence-snoc : (us : List (List ℕ)) (t : List ℕ) → sequence_of (us ++ t ∷ []) ≡ sequence_of us ++ blank ∷ t
+sequence-snoc [] t = ap (λ s. blank ∷ s) (append-nil t)
+sequence-snoc (u ∷ us) t = ap (λ s. blank ∷ u ++ s) (sequence-snoc us t) ∙ simp append_assoc
 
 reversed_tokens-cons : (t : List ℕ) (ts : List (List ℕ)) → reversed_tokens (t ∷ ts) ≡ reversed_tokens ts ++ reverse t ∷ []
 reversed_tokens-cons t ts = reverse-append (reverse t ∷ []) (map reverse ts)
 
-row-reversed_tokens : (ts : List (List ℕ)) → row_of (reversed_tokens ts) ++ blank ∷ [] ≡ blank ∷ reverse (row_of ts)
-row-reversed_tokens [] = refl
-row-reversed_tokens (t ∷ ts) =
-    ap (λ us. row_of us ++ blank ∷ []) (reversed_tokens-cons t ts) ∙ ap (λ s. s ++ blank ∷ []) (row-snoc (reversed_tokens ts) (reverse t))
-    ∙ append_assoc (row_of (reversed_tokens ts)) (blank ∷ reverse t) (blank ∷ [])
-    ∙ sym (append_assoc (row_of (reversed_tokens ts)) (blank ∷ []) (reverse t ++ blank ∷ []))
-    ∙ ap (λ s. s ++ (reverse t ++ blank ∷ [])) (row-reversed_tokens ts)
-    ∙ ap (λ s. blank ∷ s) (sym (append_assoc (reverse (row_of ts)) (reverse t) (blank ∷ []))
-    ∙ ap (λ s. s ++ blank ∷ []) (sym (reverse-append t (row_of ts)))
-    ∙ sym (reverse-append (blank ∷ []) (t ++ row_of ts)))
+sequence-reversed_tokens : (ts : List (List ℕ)) → sequence_of (reversed_tokens ts) ++ blank ∷ [] ≡ blank ∷ reverse (sequence_of ts)
+sequence-reversed_tokens [] = refl
+sequence-reversed_tokens (t ∷ ts) =
+    ap (λ us. sequence_of us ++ blank ∷ []) (reversed_tokens-cons t ts) ∙ ap (λ s. s ++ blank ∷ []) (sequence-snoc (reversed_tokens ts) (reverse t))
+    ∙ append_assoc (sequence_of (reversed_tokens ts)) (blank ∷ reverse t) (blank ∷ [])
+    ∙ sym (append_assoc (sequence_of (reversed_tokens ts)) (blank ∷ []) (reverse t ++ blank ∷ []))
+    ∙ ap (λ s. s ++ (reverse t ++ blank ∷ [])) (sequence-reversed_tokens ts)
+    ∙ ap (λ s. blank ∷ s) (sym (append_assoc (reverse (sequence_of ts)) (reverse t) (blank ∷ []))
+    ∙ ap (λ s. s ++ blank ∷ []) (sym (reverse-append t (sequence_of ts)))
+    ∙ sym (reverse-append (blank ∷ []) (t ++ sequence_of ts)))
 
-gapped-at_blank : (ts : List (List ℕ)) → gapped_from blank true (row_of ts) ≡ gapped ts
+gapped-at_blank : (ts : List (List ℕ)) → gapped_from blank true (sequence_of ts) ≡ gapped ts
 gapped-at_blank [] = refl
 gapped-at_blank (t ∷ ts) = refl
 
 pub gapped-reversed_tokens : (ts : List (List ℕ)) → gapped (reversed_tokens ts) ≡ mirror (gapped ts)
 gapped-reversed_tokens ts =
-    sym (gapped-snoc_blank blank false (row_of (reversed_tokens ts))) ∙ ap (λ s. gapped_from blank false s) (row-reversed_tokens ts)
-    ∙ gapped-reversed (row_of ts) ∙ ap mirror (gapped-at_blank ts)
+    sym (gapped-snoc_blank blank false (sequence_of (reversed_tokens ts))) ∙ ap (λ s. gapped_from blank false s) (sequence-reversed_tokens ts)
+    ∙ gapped-reversed (sequence_of ts) ∙ ap mirror (gapped-at_blank ts)
 
 -- what spells a list of tokens spells it from the end
 pub Spells-reversed_tokens : (w : Word) (ts : List (List ℕ)) → Spells w ts → Spells (reverse w) (reversed_tokens ts)

@@ -15,7 +15,7 @@ gap_of false both_words = no_gap
 gap_of true false = free
 gap_of true true = needed
 
--- The letters of a row after the letter `last`, each with the gap before it. A blank in the row is a gap.
+-- The letters of a sequence after the letter `last`, each with the gap before it. A blank in the sequence is a gap.
 abbrev pub gapped_from : ℕ → Bool → List ℕ → List (Gap × ℕ)
 gapped_from last apart [] = []
 gapped_from last apart (c ∷ rest) =
@@ -23,14 +23,14 @@ gapped_from last apart (c ∷ rest) =
     else (gap_of apart (is_word last && is_word c), c) ∷ gapped_from c false rest
 
 -- the tokens' letters in a row, with a blank before each token
-abbrev pub row_of : List (List ℕ) → List ℕ
-row_of [] = []
-row_of (t ∷ ts) = blank ∷ t ++ row_of ts
+abbrev pub sequence_of : List (List ℕ) → List ℕ
+sequence_of [] = []
+sequence_of (t ∷ ts) = blank ∷ t ++ sequence_of ts
 
 -- The letters of the tokens in order, with a gap where two tokens meet and at each blank inside a token.
 -- Before the first letter there is a free gap, since a blank is no letter of a word.
 abbrev pub gapped : List (List ℕ) → List (Gap × ℕ)
-gapped ts = gapped_from blank false (row_of ts)
+gapped ts = gapped_from blank false (sequence_of ts)
 
 -- how many blanks a gap may be written as
 abbrev pub Allows : Gap → ℕ → Type 0
@@ -47,7 +47,7 @@ SpellsGapped w (p ∷ rest) = (n : ℕ) × Allows p.0 n × (v : Word) × (w ≡ 
 abbrev pub Spells : Word → List (List ℕ) → Type 0
 Spells w ts = SpellsGapped w (gapped ts)
 
--- the last letter of a row, or else the letter before it
+-- the last letter of a sequence, or else the letter before it
 abbrev pub last_letter : ℕ → List ℕ → ℕ
 last_letter last [] = last
 last_letter last (c ∷ rest) = if c == blank then last_letter last rest else last_letter c rest
@@ -57,7 +57,7 @@ abbrev pub last_of : ℕ → List (List ℕ) → ℕ
 last_of last [] = last
 last_of last (t ∷ ts) = last_of (last_letter last t) ts
 
--- whether a gap comes after the last letter of a row: a blank ends it, or it is empty and a gap is there already
+-- whether a gap comes after the last letter of a sequence: a blank ends it, or it is empty and a gap is there already
 abbrev pub apart_after : Bool → List ℕ → Bool
 apart_after apart [] = apart
 apart_after apart (c ∷ rest) = apart_after (c == blank) rest

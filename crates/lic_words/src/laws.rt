@@ -20,8 +20,8 @@ pub fn texts_denote_their_letters()
         → Language (cat_all (map letters texts)) w ↔ (w ≡ concat texts) }
 {}
 
-/// A word of two rows of expressions together is a word of the first and then one of the second.
-pub fn joined_rows_denote_both()
+/// A word of two sequences of expressions together is a word of the first and then one of the second.
+pub fn joined_sequences_denote_both()
     ensures { (xs ys : List Expression) (w : List ℕ)
         → Language (cat_all (xs ++ ys)) w ↔ Cat (Language (cat_all xs)) (Language (cat_all ys)) w }
 {}

@@ -23,12 +23,12 @@ fn begins_extension(character: char, rest: Remaining<'_>) -> bool
 }
 
 /// A member of one character.
-fn single(place: usize, character: char, rest: Remaining<'_>) -> Result<Member, EreFault>
-    ensures { Gives (λ x. x) result (single_at (place, character) (left rest.entry)) }
+fn single(offset: usize, character: char, rest: Remaining<'_>) -> Result<Member, EreFault>
+    ensures { Gives (λ x. x) result (single_at (offset, character) (left rest.entry)) }
 {
     if begins_extension(character, rest) {
         return Err(EreFault {
-            place,
+            offset,
             cause: EreCause::BracketExtension,
         });
     }
@@ -38,19 +38,19 @@ fn single(place: usize, character: char, rest: Remaining<'_>) -> Result<Member, 
     })
 }
 
-/// A member from one character to another, each with its place.
+/// A member from one character to another, each with its offset.
 fn range(first: (usize, char), last: (usize, char), rest: Remaining<'_>) -> Result<Member, EreFault>
     ensures { Gives (λ x. x) result (range_at first last (left rest.entry)) }
 {
     if last.1 < first.1 {
         return Err(EreFault {
-            place: first.0,
+            offset: first.0,
             cause: EreCause::RangeOutOfOrder,
         });
     }
     if begins_extension(last.1, rest) {
         return Err(EreFault {
-            place: last.0,
+            offset: last.0,
             cause: EreCause::BracketExtension,
         });
     }
@@ -82,14 +82,14 @@ fn closes(first: bool, character: char) -> bool
     !first && character == ']'
 }
 
-/// The members of the bracket that opens at a place, and what follows its `]`.
+/// The members of the bracket that opens at an offset, and what follows its `]`.
 fn members(
     alloc: Global,
-    place: usize,
+    offset: usize,
     all: Remaining<'_>,
 ) -> Result<(Vec<Member>, Remaining<'_>), EreFault>
     ensures { Gives (λ x. (x.0.items, left x.1)) result
-        (map_ok (with_remaining (left all.entry)) (members_at place true 0 (left all.entry))) }
+        (map_ok (with_remaining (left all.entry)) (members_at offset true 0 (left all.entry))) }
 {
     let mut members = Vec::new(alloc);
     let mut rest = all;
@@ -102,7 +102,7 @@ fn members(
         rest = following;
     }
     Err(EreFault {
-        place,
+        offset,
         cause: EreCause::BracketNotClosed,
     })
 }
@@ -118,10 +118,10 @@ fn complement(rest: Remaining<'_>) -> (bool, Remaining<'_>)
     }
 }
 
-/// The set of the bracket that opens at a place, and what follows the bracket.
+/// The set of the bracket that opens at an offset, and what follows the bracket.
 pub fn bracket(
     alloc: Global,
-    place: usize,
+    offset: usize,
     rest: Remaining<'_>,
 ) -> Result<(Class, Remaining<'_>), EreFault>
     // What is read is spelled so.
@@ -130,22 +130,22 @@ pub fn bracket(
     ensures only { (b : Brackets) (end : List Located) → IsBracket (left rest.entry) end b
         → Gives seen result (Ok (b, end)) }
     ensures exact { Gives seen result
-        (map_ok (with_remaining (left rest.entry)) (bracket_at place (left rest.entry))) }
+        (map_ok (with_remaining (left rest.entry)) (bracket_at offset (left rest.entry))) }
 {
-    bracket_after(alloc, place, rest)
+    bracket_after(alloc, offset, rest)
 }
 
 #[tactic(auto, unfolding(crate::specs::Brackets::bracket_at))]
 fn bracket_after(
     alloc: Global,
-    place: usize,
+    offset: usize,
     rest: Remaining<'_>,
 ) -> Result<(Class, Remaining<'_>), EreFault>
     ensures { Gives seen result
-        (map_ok (with_remaining (left rest.entry)) (bracket_at place (left rest.entry))) }
+        (map_ok (with_remaining (left rest.entry)) (bracket_at offset (left rest.entry))) }
 {
     let (complement, rest) = complement(rest);
-    let (mut members, rest) = members(alloc, place, rest)?;
+    let (mut members, rest) = members(alloc, offset, rest)?;
     members.shrink_to_fit();
     Ok((Class::new(alloc, members, complement)?, rest))
 }

@@ -13,7 +13,7 @@ use std::collections::HashMap;
 
 /// Windows of one length in bytes, each with a number.
 ///
-/// Every `STEP`-th place of the bytes is looked at: wherever a window is, one of its first `STEP` grams begins there.
+/// Every `STEP`-th offset of the bytes is looked at: wherever a window is, one of its first `STEP` grams begins there.
 #[derive(Drop)]
 pub struct Table<const LENGTH: usize, const GRAM: usize, const STEP: usize> {
     // the marks of the first grams of the windows
@@ -64,7 +64,7 @@ impl<const LENGTH: usize, const GRAM: usize, const STEP: usize> Table<LENGTH, GR
         }
     }
 
-    /// Notes each place at which a window occurs in the bytes.
+    /// Notes each offset at which a window occurs in the bytes.
     pub fn note_all(&self, bytes: &[u8], hits: &mut Hits) -> Result<(), AllocError>
         requires sizes { AreSizes LENGTH GRAM STEP }
         ensures { OnOk result (NotesWhere self.now bytes.now (λ _. Unit {0}) hits.old hits.new) }
@@ -72,61 +72,61 @@ impl<const LENGTH: usize, const GRAM: usize, const STEP: usize> Table<LENGTH, GR
         if self.numbers.is_empty() {
             return Ok(());
         }
-        let mut place = 0;
-        while place + GRAM <= bytes.len() {
-            let hash = hash(&bytes[place..place + GRAM]);
+        let mut offset = 0;
+        while offset + GRAM <= bytes.len() {
+            let hash = hash(&bytes[offset..offset + GRAM]);
             if self.grams.has(mark_of(hash)) {
-                self.note_around(bytes, place, hash, hits)?;
+                self.note_around(bytes, offset, hash, hits)?;
             }
-            place += STEP;
+            offset += STEP;
         }
         Ok(())
     }
 
-    // Notes each window that occurs in the bytes so that one of its first grams is the one at this place, which has this hash.
+    // Notes each window that occurs in the bytes so that one of its first grams is the one at this offset, which has this hash.
     #[inline(never)]
     fn note_around(
         &self,
         bytes: &[u8],
-        place: usize,
+        offset: usize,
         hash: u64,
         hits: &mut Hits,
     ) -> Result<(), AllocError>
         requires sizes { AreSizes LENGTH GRAM STEP }
-        requires place { place ≤ length bytes.now }
-        requires hash { hash ≡ hash_of (gram_at GRAM bytes.now place) }
+        requires offset { offset ≤ length bytes.now }
+        requires hash { hash ≡ hash_of (gram_at GRAM bytes.now offset) }
         ensures { OnOk result
-            (NotesWhere self.now bytes.now (λ p. (p ≤ place) × (place < p + STEP)) hits.old hits.new) }
+            (NotesWhere self.now bytes.now (λ p. (p ≤ offset) × (offset < p + STEP)) hits.old hits.new) }
     {
         for back in 0..STEP {
             let start = STEP - 1 - back;
-            if start <= place && self.starts.has(start_mark_of(hash, start)) {
-                self.note_at(bytes, place - start, hits)?;
+            if start <= offset && self.starts.has(start_mark_of(hash, start)) {
+                self.note_at(bytes, offset - start, hits)?;
             }
         }
         Ok(())
     }
 
-    // Notes the window that the bytes have at this place, if there is one.
-    fn note_at(&self, bytes: &[u8], place: usize, hits: &mut Hits) -> Result<(), AllocError>
+    // Notes the window that the bytes have at this offset, if there is one.
+    fn note_at(&self, bytes: &[u8], offset: usize, hits: &mut Hits) -> Result<(), AllocError>
         requires sizes { AreSizes LENGTH GRAM STEP }
-        requires place { place ≤ length bytes.now }
-        ensures { OnOk result (NotesWhere self.now bytes.now (λ p. p ≡ place) hits.old hits.new) }
+        requires offset { offset ≤ length bytes.now }
+        ensures { OnOk result (NotesWhere self.now bytes.now (λ p. p ≡ offset) hits.old hits.new) }
     {
-        if let Some(number) = self.number_at(bytes, place) {
-            hits.note(number, place)?;
+        if let Some(number) = self.number_at(bytes, offset) {
+            hits.note(number, offset)?;
         }
         Ok(())
     }
 
-    // The number of the window that the bytes have at this place, if there is one.
-    fn number_at(&self, bytes: &[u8], place: usize) -> Option<usize>
+    // The number of the window that the bytes have at this offset, if there is one.
+    fn number_at(&self, bytes: &[u8], offset: usize) -> Option<usize>
         requires sizes { AreSizes LENGTH GRAM STEP }
-        requires place { place ≤ length bytes.now }
-        ensures { (w : List ℕ) → length w ≡ LENGTH → OccursAt bytes.now w place
+        requires offset { offset ≤ length bytes.now }
+        ensures { (w : List ℕ) → length w ≡ LENGTH → OccursAt bytes.now w offset
             → result ≡ number_of self.now w }
     {
-        let window = bytes[place..].first_chunk::<LENGTH>()?;
+        let window = bytes[offset..].first_chunk::<LENGTH>()?;
         self.numbers.get(window).copied()
     }
 }

@@ -9,7 +9,7 @@ ghost use Rattle.lic_markup.specs.Views.{values_of};
 use crate::fault::{MarkupCause, MarkupFault};
 use crate::piece::Piece;
 use crate::rule::tag::Tag;
-use crate::texts::{begins_with, begins_with_two, place_of, trim_end, trim_start, unescaped};
+use crate::texts::{begins_with, begins_with_two, offset_of, trim_end, trim_start, unescaped};
 use std::alloc::{AllocError, Global};
 
 /// What a field means.
@@ -69,7 +69,7 @@ impl Values {
             Field::Name => self.name = Some(unescaped(alloc, value)?),
             Field::Original => self.original = Some(unescaped(alloc, value)?),
             Field::Match => self.pattern = Some((
-                place_of(value),
+                offset_of(value),
                 String::from_str(alloc, value.as_str())?,
             )),
             Field::Other => {}
@@ -101,7 +101,7 @@ fn at_end(rest: Piece<'_>) -> bool
 }
 
 /// The name of a field that begins here, with the white space after it, and what follows its `=`.
-/// `rule` and `start` are the places of the rule and of the field.
+/// `rule` and `start` are the offsets of the rule and of the field.
 fn name(rule: usize, start: usize, all: Piece<'_>) -> Result<(Piece<'_>, Piece<'_>), MarkupFault>
     ensures { Gives (λ x. (characters x.0, characters x.1)) result
         (map_ok (with_remaining (characters all.entry)) (name_at rule start (characters all.entry))) }
@@ -113,14 +113,14 @@ fn name(rule: usize, start: usize, all: Piece<'_>) -> Result<(Piece<'_>, Piece<'
         }
         if at_end(rest) {
             return Err(MarkupFault {
-                place: start,
+                offset: start,
                 cause: MarkupCause::NoEquals,
             });
         }
         rest = after;
     }
     Err(MarkupFault {
-        place: rule,
+        offset: rule,
         cause: MarkupCause::NotClosed,
     })
 }
@@ -148,7 +148,7 @@ fn quoted(rule: usize, all: Piece<'_>) -> Result<(Piece<'_>, Piece<'_>), MarkupF
         rest = after;
     }
     Err(MarkupFault {
-        place: rule,
+        offset: rule,
         cause: MarkupCause::NotClosed,
     })
 }
@@ -175,7 +175,7 @@ fn plain(rule: usize, all: Piece<'_>) -> Result<(Piece<'_>, Piece<'_>), MarkupFa
         rest = after;
     }
     Err(MarkupFault {
-        place: rule,
+        offset: rule,
         cause: MarkupCause::NotClosed,
     })
 }
@@ -194,7 +194,7 @@ fn value(rule: usize, rest: Piece<'_>) -> Result<(Piece<'_>, Piece<'_>), MarkupF
 }
 
 /// Reads the field that begins here into the values, and gives what follows it. `rule` and `start` are the
-/// places of the rule and of the field.
+/// offsets of the rule and of the field.
 #[tactic(auto, unfolding(crate::specs::Rules::field_at))]
 fn read_field<'a>(
     alloc: Global,
@@ -211,7 +211,7 @@ fn read_field<'a>(
     let field = field_of(tag, trim_end(name).as_str());
     if values.has(field) {
         return Err(MarkupFault {
-            place: start,
+            offset: start,
             cause: MarkupCause::FieldTwice,
         });
     }
@@ -240,7 +240,7 @@ fn field_or_none<'a>(
     read_field(alloc, rule, start, tag, values, rest)
 }
 
-/// The values of a rule's fields from a place where `;` or `>>` must be, and what follows its `>>`.
+/// The values of a rule's fields from an offset where `;` or `>>` must be, and what follows its `>>`.
 pub fn fields(
     alloc: Global,
     rule: usize,
@@ -258,14 +258,14 @@ pub fn fields(
         }
         if !begins_with(rest, ';') {
             return Err(MarkupFault {
-                place: rule,
+                offset: rule,
                 cause: MarkupCause::NotClosed,
             });
         }
         rest = field_or_none(alloc, rule, tag, &mut values, trim_start(after))?;
     }
     Err(MarkupFault {
-        place: rule,
+        offset: rule,
         cause: MarkupCause::NotClosed,
     })
 }

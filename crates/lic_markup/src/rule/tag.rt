@@ -48,9 +48,9 @@ fn split_word(all: Piece<'_>) -> (Piece<'_>, Piece<'_>)
 /// The tag of the rule that begins with a `<`, if one does, and what follows the tag; given what follows the `<`.
 #[tactic(auto, unfolding(crate::specs::Rules::tag_at))]
 pub fn read_tag(rest: Piece<'_>) -> Option<(Tag, Piece<'_>)>
-    ensures { (place : ℕ) → option_map (λ x. (x.0, characters x.1)) result
+    ensures { (offset : ℕ) → option_map (λ x. (x.0, characters x.1)) result
         ≡ option_map (with_remaining (characters rest.entry))
-        (tag_at (place, less) (characters rest.entry)) }
+        (tag_at (offset, less) (characters rest.entry)) }
 {
     if !begins_with(rest, '<') {
         return None;

@@ -1,9 +1,12 @@
 //! The first tokens of lines of an input.
 
-ghost use Rattle.std.specs.Prelude.{◌≡◌, ◌+◌, ◌++◌, ◌<◌, ◌≤◌, ◌^◌, List, length, IfSome, OnOk, IsAscii, IsUtf8};
+ghost use Rattle.std.specs.Prelude.{◌≡◌, ◌+◌, ◌++◌, ◌<◌, ◌≤◌, ◌^◌, List, length, IfOk, IfSome, OnOk, IsAscii, IsUtf8};
 ghost use Rattle.lic_kind.specs.LineRules.{rules_of};
-ghost use Rattle.lic_lines.specs.Tokens.{Token};
-ghost use Rattle.lic_norm.specs.Reading.{HasTaken, HasTakenSome};
+ghost use Rattle.lic_trim.specs.Sources.{placed};
+ghost use Rattle.lic_lines.specs.Cells.{cells_of};
+ghost use Rattle.lic_lines.specs.Streaks.{streaks_joined};
+ghost use Rattle.lic_lines.specs.Tokens.{Token, first_tokens, line_tokens};
+ghost use Rattle.lic_norm.specs.Reading.{HasTaken, HasTakenSome, phrases_of};
 ghost use Rattle.lic_norm.specs.Tokens.{first_tokens_of, line_tokens_of};
 
 use crate::reader::characters::read_characters;
@@ -23,7 +26,7 @@ const WHOLE_LINE: LinePart = LinePart {
 };
 
 /// These bytes as a text, where all of them are ASCII.
-pub(crate) fn ascii_text(bytes: &[u8]) -> Option<&str>
+pub fn ascii_text(bytes: &[u8]) -> Option<&str>
     ensures utf8 { IfSome result (λ text. IsUtf8 text.now) }
     ensures same { IfSome result (λ text. text.now ≡ bytes.now) }
     ensures ascii { IfSome result (λ text. IsAscii text.now) }
@@ -34,28 +37,28 @@ pub(crate) fn ascii_text(bytes: &[u8]) -> Option<&str>
     from_utf8(bytes).ok()
 }
 
-/// So many characters there may be room for from one line to the next.
+/// At most so many characters of a buffer are kept from one line to the next.
 const MAX_KEPT: usize = 65_536;
 
-/// Room for the work on lines, kept from one to the next. What it holds has no effect.
+/// Buffers for the work on lines, kept from one to the next. What they hold has no effect.
 #[derive(Drop)]
-pub(crate) struct LineBuffers {
+pub struct LineBuffers {
     /// The characters of a line that is not ASCII.
     characters: Vec<SourceChar>,
     /// The letters of a token of such a line.
     letters: String,
-    room: PartBuffers,
+    part: PartBuffers,
     /// Lines of ASCII.
     lines: Lines,
 }
 
 impl LineBuffers {
-    /// Room that takes no memory yet.
-    pub(crate) fn new(alloc: Global) -> LineBuffers {
+    /// Buffers that take no memory yet.
+    pub fn new(alloc: Global) -> LineBuffers {
         LineBuffers {
             characters: Vec::new(alloc),
             letters: String::new(alloc),
-            room: PartBuffers {
+            part: PartBuffers {
                 room: Buffers::new(alloc),
                 tokens: Vec::new(alloc),
             },
@@ -73,57 +76,79 @@ fn give_back(alloc: Global, characters: &mut Vec<SourceChar>)
     }
 }
 
-/// Takes the first tokens, by these line rules, of a line of any bytes that begins at this byte of the input. What the room
-/// holds has no effect.
+/// Takes the first tokens, by these line rules, of a line of any bytes that begins at this byte of the input. What the buffers
+/// hold has no effect.
 pub(crate) fn take_any_line(
     alloc: Global,
     rules: &Rules,
     at: u32,
     line: &[u8],
-    room: &mut LineBuffers,
+    buffers: &mut LineBuffers,
     rewriting: &mut Rewriting<'_>,
 ) -> Result<(), AllocError>
     requires fits { at + length line.now < 2 ^ 32 }
     requires before { HasTakenSome rewriting.old }
     ensures taken { OnOk result ((taken : List Token) → HasTaken rewriting.old taken
         → HasTaken rewriting.new (taken ++ line_tokens_of (rules_of rules.now) at line.now)) }
-    ensures phrases { rewriting.new.phrases.now ≡ rewriting.old.phrases.now }
+    ensures phrases { phrases_of rewriting.new ≡ phrases_of rewriting.old }
 {
     let LineBuffers {
         characters,
         letters,
-        room,
+        part,
         ..
-    } = room;
+    } = buffers;
     read_characters(characters, at, line)?;
     let left = left_of_line(alloc, rules, WHOLE_LINE, characters)?;
-    rewriting.take_characters(alloc, rules, left, letters, room)?;
+    rewriting.take_characters(alloc, rules, left, letters, part)?;
     give_back(alloc, characters);
     Ok(())
 }
 
+/// Takes the first tokens, by these line rules, of a line, of which a part is there. What the buffers hold has no effect.
+pub fn take_part(
+    alloc: Global,
+    rules: &Rules,
+    part: LinePart,
+    line: &[SourceChar],
+    buffers: &mut LineBuffers,
+    rewriting: &mut Rewriting<'_>,
+) -> Result<(), AllocError>
+    requires { HasTakenSome rewriting.old }
+    ensures taken { OnOk result ((taken : List Token) → HasTaken rewriting.old taken
+        → HasTaken rewriting.new (taken ++ line_tokens (rules_of rules.now) part line.now)) }
+    ensures phrases { phrases_of rewriting.new ≡ phrases_of rewriting.old }
+{
+    let left = left_of_line(alloc, rules, part, line)?;
+    rewriting.take_characters(alloc, rules, left, &mut buffers.letters, &mut buffers.part)
+}
+
 /// Takes the first tokens, by these line rules, of a text of ASCII that begins at this byte of the input: whole lines, or a part of the
-/// last. What the room holds has no effect.
-pub(crate) fn take_ascii(
+/// last. Gives how many there are, a copyright sign in parentheses counted as three. What the buffers hold has no effect.
+pub fn take_ascii(
     alloc: Global,
     rules: &Rules,
     at: u32,
     text: &str,
-    room: &mut LineBuffers,
+    buffers: &mut LineBuffers,
     rewriting: &mut Rewriting<'_>,
-) -> Result<(), AllocError>
+) -> Result<usize, AllocError>
     requires ascii { IsAscii text.now }
     requires fits { at + length text.now + 65 ≤ 2 ^ 32 }
     requires before { HasTakenSome rewriting.old }
     ensures taken { OnOk result ((taken : List Token) → HasTaken rewriting.old taken
         → HasTaken rewriting.new (taken ++ first_tokens_of (rules_of rules.now) at text.now)) }
-    ensures phrases { rewriting.new.phrases.now ≡ rewriting.old.phrases.now }
+    ensures count { IfOk result (λ count. count ≡ length (first_tokens (streaks_joined (rules_of rules.now)
+        (cells_of (rules_of rules.now) (placed at text.now))))) }
+    ensures phrases { phrases_of rewriting.new ≡ phrases_of rewriting.old }
 {
-    let lines = &mut room.lines;
+    let lines = &mut buffers.lines;
     lines.read(alloc, rules, at, text)?;
-    rewriting.take_stretch(alloc, &Stretch::of(at, lines))?;
+    let stretch = Stretch::of(at, lines);
+    rewriting.take_stretch(alloc, &stretch)?;
+    let count = stretch.len();
     if text.len() > MAX_KEPT {
         *lines = Lines::new(alloc);
     }
-    Ok(())
+    Ok(count)
 }

@@ -13,7 +13,7 @@ const MAX_TOGETHER: usize = 65_536;
 const BLOCK: usize = 64;
 
 /// Where the first line of these bytes ends: after its U+000A, or at their end.
-pub(crate) fn line_end(bytes: &[u8]) -> usize
+pub fn line_end(bytes: &[u8]) -> usize
     ensures within { result ≤ length bytes.now }
     ensures line { IsFirstLine (take result bytes.now) (drop result bytes.now) }
     ensures some { 0 < length bytes.now → 0 < result }
@@ -25,7 +25,7 @@ pub(crate) fn line_end(bytes: &[u8]) -> usize
 }
 
 /// The same of a text.
-pub(crate) fn text_line_end(text: &str) -> usize
+pub fn text_line_end(text: &str) -> usize
     ensures boundary { IsCharBoundary text.now result }
     ensures line { IsFirstLine (chars (take result text.now)) (drop result text.now) }
     ensures some { 0 < length text.now → 0 < result }
@@ -50,7 +50,7 @@ fn ascii_prefix(bytes: &[u8]) -> usize
 
 /// Where the lines at the start of these bytes end that are read together: those that end before the first block that is not ASCII,
 /// and otherwise the first line.
-pub(crate) fn lines_end(bytes: &[u8]) -> usize
+pub fn lines_end(bytes: &[u8]) -> usize
     ensures within { result ≤ length bytes.now }
     ensures lines { AreLines (take result bytes.now) ⊎ All (λ b. b ≢ 0x0A) bytes.now }
     ensures some { 0 < length bytes.now → 0 < result }

@@ -22,7 +22,7 @@ struct Entry {
 
 /// Tokens, with their texts in canonical spelling.
 #[derive(Debug, Drop)]
-pub(crate) struct TokenList {
+pub struct TokenList {
     spelling: String,
     entries: Vec<Entry>,
 }
@@ -239,7 +239,7 @@ impl TokenList {
 
     /// The texts in canonical spelling: one blank between two letters of kind Word that belong to different tokens, and none
     /// elsewhere.
-    pub(crate) fn spelled(&self) -> &str
+    pub fn spelled(&self) -> &str
         ensures { result.now ≡ spelled (texts_of self.now) }
     {
         self.spelling.as_str()
@@ -293,7 +293,7 @@ impl TokenList {
     }
 
     /// The texts of the tokens are in UTF-8.
-    pub(crate) fn texts_are_utf8(&self)
+    pub fn texts_are_utf8(&self)
         ensures { All (λ t. IsUtf8 t.text) self.now }
     {
         let _ = &self.entries;

@@ -33,9 +33,9 @@ one_class : tokens sub_license (codes "sub-license sublicense Sub License") ≡ 
 unfolding spell kind_of caseless encode_utf8
 one_class = refl
 
-row_of_signs : tokens [] (codes "Copyright (C) " ++ 0xA9 ∷ codes " 2001") ≡ (codes "copyright", 0, 16) ∷ (codes "2001", 17, 21) ∷ []
+sequence_of_signs : tokens [] (codes "Copyright (C) " ++ 0xA9 ∷ codes " 2001") ≡ (codes "copyright", 0, 16) ∷ (codes "2001", 17, 21) ∷ []
 unfolding spell kind_of caseless encode_utf8
-row_of_signs = refl
+sequence_of_signs = refl
 
 web_address : tokens [] (codes "HTTPS://x.org") ≡ (codes "http", 0, 5) ∷ (codes ":", 5, 6) ∷ (codes "/", 6, 7) ∷ (codes "/", 7, 8) ∷ (codes "x", 8, 9) ∷ (codes ".", 9, 10) ∷ (codes "org", 10, 13) ∷ []
 unfolding spell kind_of caseless encode_utf8
@@ -77,8 +77,8 @@ a_phrase_token_is_not_looked_at_again = refl
 eight_tokens : shown (rewritten (phrase (codes "a" ∷ codes "b" ∷ codes "c" ∷ codes "d" ∷ codes "e" ∷ codes "f" ∷ codes "g" ∷ codes "h" ∷ []) (codes "x") ∷ []) (letters 0 (codes "abcdefghi"))) ≡ (codes "x", 0, 15) ∷ (codes "i", 16, 17) ∷ []
 eight_tokens = refl
 
-a_row_of_signs_begins_a_phrase : shown (rewritten (phrase (codes "copyright" ∷ codes "x" ∷ []) (codes "y") ∷ []) (token (codes "copyright") 0 9 ∷ token (codes "copyright") 10 13 ∷ token (codes "x") 14 15 ∷ [])) ≡ (codes "y", 0, 15) ∷ []
-a_row_of_signs_begins_a_phrase = refl
+a_sequence_of_signs_begins_a_phrase : shown (rewritten (phrase (codes "copyright" ∷ codes "x" ∷ []) (codes "y") ∷ []) (token (codes "copyright") 0 9 ∷ token (codes "copyright") 10 13 ∷ token (codes "x") 14 15 ∷ [])) ≡ (codes "y", 0, 15) ∷ []
+a_sequence_of_signs_begins_a_phrase = refl
 
 an_address_begins_a_phrase : shown (rewritten (phrase (codes "http" ∷ codes ":" ∷ []) (codes "web") ∷ phrase (codes "https" ∷ []) (codes "safe") ∷ []) (token (codes "https") 0 5 ∷ token (codes ":") 5 6 ∷ token (codes "/") 6 7 ∷ token (codes "/") 7 8 ∷ token (codes "https") 9 14 ∷ [])) ≡ (codes "web", 0, 6) ∷ (codes "/", 6, 7) ∷ (codes "/", 7, 8) ∷ (codes "safe", 9, 14) ∷ []
 an_address_begins_a_phrase = refl

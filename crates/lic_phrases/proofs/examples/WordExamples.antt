@@ -73,9 +73,9 @@ sign_before_a_word : words_computed (phrase_lines (codes "a b c\n(c) x\nb c\nper
 unfolding spell kind_of caseless encode_utf8 chars is_utf8
 sign_before_a_word = refl
 
-row_of_signs : words_computed (phrase_lines (codes "(c) (c),colour\na-b,a b\na b c,of")) ≡ (written (codes "copyright" ∷ []) (codes "copyright") ∷ written (codes "colour" ∷ []) (codes "copyright") ∷ written (codes "a" ∷ codes "-" ∷ codes "b" ∷ []) (codes "a-b") ∷ written (codes "a" ∷ codes "b" ∷ []) (codes "a-b") ∷ written (codes "a" ∷ codes "b" ∷ codes "c" ∷ []) (codes "a b c") ∷ written (codes "of" ∷ []) (codes "a b c") ∷ [])
+sequence_of_signs : words_computed (phrase_lines (codes "(c) (c),colour\na-b,a b\na b c,of")) ≡ (written (codes "copyright" ∷ []) (codes "copyright") ∷ written (codes "colour" ∷ []) (codes "copyright") ∷ written (codes "a" ∷ codes "-" ∷ codes "b" ∷ []) (codes "a-b") ∷ written (codes "a" ∷ codes "b" ∷ []) (codes "a-b") ∷ written (codes "a" ∷ codes "b" ∷ codes "c" ∷ []) (codes "a b c") ∷ written (codes "of" ∷ []) (codes "a b c") ∷ [])
 unfolding spell kind_of caseless encode_utf8 chars is_utf8
-row_of_signs = refl
+sequence_of_signs = refl
 
 address : words_computed (phrase_lines (codes "https://x,color,a b c\n")) ≡ (written (codes "http" ∷ codes ":" ∷ codes "/" ∷ codes "/" ∷ codes "x" ∷ []) (codes "http://x") ∷ written (codes "color" ∷ []) (codes "http://x") ∷ written (codes "a" ∷ codes "b" ∷ codes "c" ∷ []) (codes "http://x") ∷ [])
 unfolding spell kind_of caseless encode_utf8 chars is_utf8
@@ -189,9 +189,9 @@ line_of_dropped_characters_first-fine : first_fault (encode_utf8_all (0x200B ∷
 unfolding spell kind_of caseless encode_utf8 chars is_utf8
 line_of_dropped_characters_first-fine = refl
 
-row_of_signs-fine : first_fault (codes "(c) (c),colour\na-b,a b\na b c,of") ≡ None
+sequence_of_signs-fine : first_fault (codes "(c) (c),colour\na-b,a b\na b c,of") ≡ None
 unfolding spell kind_of caseless encode_utf8 chars is_utf8
-row_of_signs-fine = refl
+sequence_of_signs-fine = refl
 
 address_with_blanks-fine : first_fault (codes "a b c,https :/ /,per cent\na b c d e f g h\nb c,a-b") ≡ None
 unfolding spell kind_of caseless encode_utf8 chars is_utf8

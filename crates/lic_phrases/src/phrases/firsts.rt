@@ -6,6 +6,9 @@ ghost use Rattle.lic_phrases.specs.FirstTexts.{may_have, HasAll, HasOthers};
 use indexmap::IndexMap;
 use std::alloc::{AllocError, Global};
 
+/// How many bytes there are.
+const BYTES: usize = 256;
+
 /// The bit of a mask that is for texts of so many bytes and more.
 const LONG: usize = 63;
 
@@ -15,14 +18,14 @@ pub(crate) struct Firsts {
     most: IndexMap<String, usize>,
     /// A prefilter: for each first byte, how long the texts are that begin with it, a bit for each length. It has those of texts
     /// that begin a phrase, and those that are not plain.
-    lengths: [u64; 256],
+    lengths: [u64; BYTES],
     ghost all: { HasAll lengths (λ text. unwrap_or (get_by_text most text) 0) },
     ghost others: { HasOthers lengths },
 }
 
 /// Whether there is a bit for the first byte of this text and its length.
 #[inline(always)]
-fn may_have(lengths: &[u64; 256], text: &str) -> bool
+fn may_have(lengths: &[u64; BYTES], text: &str) -> bool
     requires { 0 < length text.now }
     ensures { result ≡ may_have lengths.now text.now }
 {
@@ -31,7 +34,7 @@ fn may_have(lengths: &[u64; 256], text: &str) -> bool
 }
 
 /// Adds a bit for the first byte of this text and its length.
-fn add(lengths: &mut [u64; 256], text: &str)
+fn add(lengths: &mut [u64; BYTES], text: &str)
     ensures added { may_have lengths.new text.now ≡ true }
     ensures grows { (t : List ℕ) → may_have lengths.old t ≡ true → may_have lengths.new t ≡ true }
 {
@@ -43,7 +46,7 @@ fn add(lengths: &mut [u64; 256], text: &str)
 }
 
 /// Adds all bits for a first byte.
-fn add_all(lengths: &mut [u64; 256], first: u8)
+fn add_all(lengths: &mut [u64; BYTES], first: u8)
     ensures added { (rest : List ℕ) → may_have lengths.new (first ∷ rest) ≡ true }
     ensures grows { (t : List ℕ) → may_have lengths.old t ≡ true → may_have lengths.new t ≡ true }
 {
@@ -51,10 +54,10 @@ fn add_all(lengths: &mut [u64; 256], first: u8)
 }
 
 /// The prefilter where no text begins a phrase.
-fn no_lengths() -> [u64; 256]
+fn no_lengths() -> [u64; BYTES]
     ensures { HasOthers result }
 {
-    let mut lengths = [0; 256];
+    let mut lengths = [0; BYTES];
     add_all(&mut lengths, b'\'');
     add_all(&mut lengths, b'-');
     add(&mut lengths, "(");

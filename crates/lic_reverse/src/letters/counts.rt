@@ -6,7 +6,7 @@ ghost use Rattle.lic_view.specs.Backward.{AddsBack, IsBack, IsBackFrom};
 ghost use Rattle.lic_view.specs.declared.sets.keep.Keep.{Keep};
 ghost use Rattle.lic_view.specs.PlaceSets.{ArePlaced, IsPlaceOf};
 
-use crate::letters::runs::{Letters, runs_before};
+use crate::letters::streaks::{Letters, streaks_before};
 use lic_ere::Ere;
 use lic_spans::{PlaceSpan, SpanKind};
 use lic_view::{Keep, Stop, View, end_of, kept, place_of, tokens_have_texts};
@@ -91,7 +91,7 @@ fn up_to(
         count: max as usize,
         after: false,
     };
-    runs_before(alloc, view, keep, &letters, spans)
+    streaks_before(alloc, view, keep, &letters, spans)
 }
 
 // Where words of one letter or more lead to the places.

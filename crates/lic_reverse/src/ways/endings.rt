@@ -1,8 +1,8 @@
 //! The last letters of patterns, and the places of ways that such letters can lead to.
 
 ghost use Rattle.std.specs.Prelude.{◌≡◌, ◌<◌, ◌↔◌, List, Contains, IfOk, IfSome, map};
-ghost use Rattle.lic_ere.specs.Trees.{char, row, tree_of};
-ghost use Rattle.lic_markup.specs.Meaning.{row_words, tree_words};
+ghost use Rattle.lic_ere.specs.Trees.{char, sequence, tree_of};
+ghost use Rattle.lic_markup.specs.Meaning.{sequence_words, tree_words};
 ghost use Rattle.lic_words.specs.Expressions.{Language};
 ghost use Rattle.lic_words.specs.Words.{blank};
 ghost use Rattle.lic_norm.specs.Tokens.{TokenValue};
@@ -96,15 +96,15 @@ fn last_letters(ere: &Ere) -> Option<u64>
     ensures { IfSome result (EndIn (Language (tree_words (tree_of ere.now)))) }
 {
     if let Ere::Cat(subs) = ere {
-        return last_letters_of_row(subs);
+        return last_letters_of_sequence(subs);
     }
     let letter = letter_of(ere)?;
     Some(mixed(0, letter))
 }
 
 // The same of patterns in a row: of the letters after the last one that is none, and of no more than the last eight.
-fn last_letters_of_row(subs: &[Ere]) -> Option<u64>
-    ensures { IfSome result (EndIn (Language (row_words (row (map tree_of subs.now))))) }
+fn last_letters_of_sequence(subs: &[Ere]) -> Option<u64>
+    ensures { IfSome result (EndIn (Language (sequence_words (sequence (map tree_of subs.now))))) }
 {
     let mut hash = 0;
     let first = subs.len().saturating_sub(LETTERS);

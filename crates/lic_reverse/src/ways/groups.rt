@@ -24,7 +24,7 @@ pub(crate) struct Entry {
     span: PlaceSpan,
 }
 
-/// Places in groups: each once for each row of up to eight letters before it.
+/// Places in groups: each once for each sequence of up to eight letters before it.
 #[derive(Debug, Drop)]
 pub(crate) struct Groups {
     lists: Vec<Vec<Entry>>,
@@ -117,7 +117,7 @@ fn add_span(view: &View<'_>, span: PlaceSpan, lists: &mut Vec<Vec<Entry>>) -> Re
     Ok(())
 }
 
-// Adds a place once for each row of letters before it.
+// Adds a place once for each sequence of letters before it.
 fn add_place(
     view: &View<'_>,
     one: PlaceSpan,

@@ -13,10 +13,10 @@ compile-loop-part-preserved t c =
     (map (read d) (map part_words
     (take c.loop-part.part-index c.args.parts.now))) _ _ c.loop-part.invariant c.in_ok-compile_part.ensures)
 
-pub compile-ordered_row-requires : goal.compile-ordered_row-requires
-compile-ordered_row-requires t c = AllHaveWords-measured _ _ c.loop-part.invariant
+pub compile-ordered_sequence-requires : goal.compile-ordered_sequence-requires
+compile-ordered_sequence-requires t c = AllHaveWords-measured _ _ c.loop-part.invariant
 
 pub compile-returns : goal.compile-returns
 compile-returns t c =
     changed _ (compiled_parts c.args.direction _ _
-    (rw (take_all c.loop-part.part-index c.args.parts.now c.loop-part-test.false) at c.loop-part.invariant)) c.ordered_row.ensures
+    (rw (take_all c.loop-part.part-index c.args.parts.now c.loop-part-test.false) at c.loop-part.invariant)) c.ordered_sequence.ensures

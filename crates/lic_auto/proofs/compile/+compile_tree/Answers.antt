@@ -9,12 +9,12 @@ use Rattle.lic_auto.specs.Compiling.{AreSame, pattern_words}
 use Rattle.lic_auto.specs.Directions.{read}
 use Rattle.lic_auto.proofs.WordSets.{Either, EmptyIf}
 use Rattle.lic_auto.proofs.Taken.{measured-push, choice_keeps, choice_leaves_out, choice_with_empty, choice_without, node_told}
-use Rattle.lic_auto.proofs.Trees.{AllHaveWords-measured, AllHaveWords-push, changed, compiled_row, compiled_choice, compiled_repetition, more_of}
+use Rattle.lic_auto.proofs.Trees.{AllHaveWords-measured, AllHaveWords-push, changed, compiled_sequence, compiled_choice, compiled_repetition, more_of}
 use Rattle.lic_auto.proofs.compile.+compile_tree.Goals.{compile_choice-then-weight-gt0+in_ok-push, compile_choice-else-weight-gt0, compile_choice-then-has_empty+in_ok-push-2, compile_choice-else-has_empty}
 use Rattle.lic_auto.proofs.compile.+compile_tree.Goals as goal
 
-pub compile_tree-ordered_row-requires : goal.compile_tree-ordered_row-requires
-compile_tree-ordered_row-requires t c = AllHaveWords-measured _ _ c.in_ok-compile_trees-in-Cat.ensures
+pub compile_tree-ordered_sequence-requires : goal.compile_tree-ordered_sequence-requires
+compile_tree-ordered_sequence-requires t c = AllHaveWords-measured _ _ c.in_ok-compile_trees-in-Cat.ensures
 
 pub compile_choice-loop-sub-preserved : goal.compile_choice-loop-sub-preserved
 compile_choice-loop-sub-preserved t c =
@@ -56,7 +56,7 @@ compile_choice-returns t c =
 
 pub compile_tree-returns-in_ok-compile_trees-in-Cat : goal.compile_tree-returns-in_ok-compile_trees-in-Cat
 compile_tree-returns-in_ok-compile_trees-in-Cat t c =
-    changed _ (compiled_row c.args.direction _ _ _ (rw c.deref.ensures.value at c.in_ok-compile_trees-in-Cat.ensures) c.in-Cat.is) c.ordered_row.ensures
+    changed _ (compiled_sequence c.args.direction _ _ _ (rw c.deref.ensures.value at c.in_ok-compile_trees-in-Cat.ensures) c.in-Cat.is) c.ordered_sequence.ensures
 
 pub compile_tree-returns-in-Alt : goal.compile_tree-returns-in-Alt
 compile_tree-returns-in-Alt t c =

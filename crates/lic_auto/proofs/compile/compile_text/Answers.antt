@@ -11,6 +11,6 @@ returns c =
     let text = c.in_ok-text.text in
     let made = items_from_collect {E = AllocError} (Ok text) c.in_ok-text.ensures.ran
     (YieldsList-from_chars c.args.text.now c.utf8.text c.chars.ensures.rest) in
-    let is = with_items_is text c.order.new.row (omega (arith, c.order.auto, c.deref_mut.ensures.len)) ∙ c.order.ensures
+    let is = with_items_is text c.order.new.sequence (omega (arith, c.order.auto, c.deref_mut.ensures.len)) ∙ c.order.ensures
     ∙ ap (ordered c.args.direction) (c.deref_mut.ensures.value ∙ made) in
     letters_compiled c.args.direction _ _ _ is c.letters.ensures

@@ -5,7 +5,7 @@ use Rattle.lic_marks.specs.declared.node.Times.TheVariants.{Unbounded}
 use Rattle.lic_marks.proofs.Nodes.{core_of-One}
 use Rattle.lic_auto.specs.Compiling.{AreSame, Repeats}
 use Rattle.lic_auto.proofs.Trees.{changed}
-use Rattle.lic_auto.proofs.Repetitions.{star_row, plus_words, unbounded_row, unbounded_words}
+use Rattle.lic_auto.proofs.Repetitions.{star_sequence, plus_words, unbounded_sequence, unbounded_words}
 use Rattle.lic_auto.proofs.Copies.{copies_of_one}
 use Rattle.lic_auto.proofs.Taken.{node_told}
 use Rattle.lic_auto.proofs.compile.unbounded.Goals as goal
@@ -13,7 +13,7 @@ use Rattle.lic_auto.proofs.compile.unbounded.Goals as goal
 pub returns-then-min-eq0 : goal.returns-then-min-eq0
 returns-then-min-eq0 c =
     let is : core_of c.plus.result ≡ plus (core_of c.args.body) = c.plus.ensures.core ∙ ap (λ n. plus (core_of n)) c.in_ok-new.ensures.ok in
-    rw c.if-min-eq0.true (changed _ (star_row _ _ is) c.optional.ensures)
+    rw c.if-min-eq0.true (changed _ (star_sequence _ _ is) c.optional.ensures)
 
 pub returns-then-min-eq1 : goal.returns-then-min-eq1
 returns-then-min-eq1 c =
@@ -31,8 +31,8 @@ returns-in_ok-push-in-One-2 c =
     let last : core_of c.plus-in-One.result ≡ plus (core_of c.args.body) =
     c.plus-in-One.ensures.core ∙ ap (λ n. plus (core_of n)) c.in_ok-new-in-One.ensures.ok
     ∙ ap plus (c.one.ensures.core ∙ sym (core_of-One c.in-One.test) ∙ ap core_of (sym c.in-One.is)) in
-    changed _ (unbounded_row _ _ _ c.args.min some first.core last)
-    (rw (c.in_ok-push-in-One-2.ensures.items, c.in_ok-push-in-One.ensures.items, c.new-children.ensures.items) at c.row.ensures)
+    changed _ (unbounded_sequence _ _ _ c.args.min some first.core last)
+    (rw (c.in_ok-push-in-One-2.ensures.items, c.in_ok-push-in-One.ensures.items, c.new-children.ensures.items) at c.sequence.ensures)
 
 pub returns-in_ok-new-in_default : goal.returns-in_ok-new-in_default
 returns-in_ok-new-in_default c =

@@ -1,4 +1,4 @@
--- The ends of the occurrences that begin before the place from which the search continues.
+-- The ends of the occurrences that begin before the offset from which the search continues.
 use Rattle.std.proofs.Common.{ℕ, ◌+◌, ◌-◌, ◌<◌, ◌≤◌, length}
 use Rattle.std.specs.Prelude.{◌↔◌}
 use Rattle.std.specs.List.{Contains}

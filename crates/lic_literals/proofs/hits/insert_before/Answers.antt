@@ -15,9 +15,9 @@ returns-in_ok-insert-clause-rising c =
     let at = c.in-Err.at in
     let found : IsBinarySearchResult (λ y. nat_cmp y x) xs (Err at) =
     subst (λ ys. IsBinarySearchResult (λ y. nat_cmp y x) ys (Err at)) c.deref.ensures.value c.in-Err.ensures.position in
-    let place : (at ≤ length xs) × ((k : ℕ) → k < at → get_or xs k 0 < x) × ((k : ℕ) → at ≤ k → k < length xs → x < get_or xs k 0) =
+    let offset : (at ≤ length xs) × ((k : ℕ) → k < at → get_or xs k 0 < x) × ((k : ℕ) → at ≤ k → k < length xs → x < get_or xs k 0) =
     searched xs x (Err at) found (le_later xs c.requires) in
-    subst IsStrictlyIncreasing (sym c.in_ok-insert.ensures.items) (IsStrictlyIncreasing-insert xs at x place.0 c.requires place.1 place.2)
+    subst IsStrictlyIncreasing (sym c.in_ok-insert.ensures.items) (IsStrictlyIncreasing-insert xs at x offset.0 c.requires offset.1 offset.2)
 
 pub returns-in_ok-insert-clause-kept : goal.returns-in_ok-insert-clause-kept
 returns-in_ok-insert-clause-kept c = λ other inside.
@@ -26,6 +26,6 @@ returns-in_ok-insert-clause-kept c = λ other inside.
     let at = c.in-Err.at in
     let found : IsBinarySearchResult (λ y. nat_cmp y x) xs (Err at) =
     subst (λ ys. IsBinarySearchResult (λ y. nat_cmp y x) ys (Err at)) c.deref.ensures.value c.in-Err.ensures.position in
-    let place : (at ≤ length xs) × ((k : ℕ) → k < at → get_or xs k 0 < x) × ((k : ℕ) → at ≤ k → k < length xs → x < get_or xs k 0) =
+    let offset : (at ≤ length xs) × ((k : ℕ) → k < at → get_or xs k 0 < x) × ((k : ℕ) → at ≤ k → k < length xs → x < get_or xs k 0) =
     searched xs x (Err at) found (le_later xs c.requires) in
-    subst (λ ys. Contains ys other) (sym c.in_ok-insert.ensures.items) (Contains-insert_kept xs at x place.0 other inside)
+    subst (λ ys. Contains ys other) (sym c.in_ok-insert.ensures.items) (Contains-insert_kept xs at x offset.0 other inside)

@@ -29,8 +29,8 @@ loop-sign-preserved-in_default-read_tag c =
     record {
       ends = ends_on c.loop-sign.piece c.loop-sign.rest c.in-Some.after inv.ends next.ends_after;
       cut = cut_on (map element_of c.loop-sign.found.items) (characters c.loop-sign.piece) (characters c.loop-sign.rest)
-          next.front (characters c.in-Some.sign) _ next.parts next.first inv.cut (c.in-Some.sign.place, less) (characters c.in-Some.after) next.sign
-          (none_there _ _ _ c.in_default-read_tag.not-Some (c.read_tag.ensures c.in-Some.sign.place));
+          next.front (characters c.in-Some.sign) _ next.parts next.first inv.cut (c.in-Some.sign.offset, less) (characters c.in-Some.after) next.sign
+          (none_there _ _ _ c.in_default-read_tag.not-Some (c.read_tag.ensures c.in-Some.sign.offset));
     }
 
 pub loop-sign-smaller-in_default-read_tag : goal.loop-sign-smaller-in_default-read_tag
@@ -39,9 +39,9 @@ loop-sign-smaller-in_default-read_tag c = next_sign-shorter c.loop-sign.rest c.i
 pub returns-in_default-2 : goal.returns-in_default-2
 returns-in_default-2 c =
     let next = c.in-Some.ensures.some in
-    let place = c.in-Some.sign.place in
+    let offset = c.in-Some.sign.offset in
     let following = characters c.in-Some-read_tag.following in
-    let r = rule_at place c.in-Some-read_tag.tag following in
+    let r = rule_at offset c.in-Some-read_tag.tag following in
     let F = map element_of c.loop-sign.found.items in
     let E = map element_of c.push_rule.new.found.items in
     let now : E ≡ (F ++ text (characters c.up_to.result) ∷ []) ++ element_read r ∷ [] =
@@ -49,17 +49,17 @@ returns-in_default-2 c =
     (ap (map element_of) c.in_ok-push.ensures.items
     ∙ map-append element_of c.loop-sign.found.items (Text c.up_to.result ∷ [])) in
     let all = cut_rule F (characters c.loop-sign.piece) (characters c.loop-sign.rest) next.front (characters c.in-Some.sign) _ next.parts next.first
-    c.loop-sign.invariant.cut (place, less) (characters c.in-Some.after) next.sign E (characters c.up_to.result) c.in-Some-read_tag.tag following
-    c.up_to.ensures (some_there _ _ (c.in-Some-read_tag.tag, c.in-Some-read_tag.following) _ c.in-Some-read_tag.is (c.read_tag.ensures place)) now in
+    c.loop-sign.invariant.cut (offset, less) (characters c.in-Some.after) next.sign E (characters c.up_to.result) c.in-Some-read_tag.tag following
+    c.up_to.ensures (some_there _ _ (c.in-Some-read_tag.tag, c.in-Some-read_tag.following) _ c.in-Some-read_tag.is (c.read_tag.ensures offset)) now in
     sym (append-nil E) ∙ ap (λ (es : List Element). E ++ es)
     (sym (others-none following r (none_there _ _ _ c.in_default-2.not-Some c.in_ok-following.ensures.following))) ∙ all
 
 pub loop-sign-preserved : goal.loop-sign-preserved
 loop-sign-preserved c =
     let next = c.in-Some.ensures.some in
-    let place = c.in-Some.sign.place in
+    let offset = c.in-Some.sign.offset in
     let following = characters c.in-Some-read_tag.following in
-    let r = rule_at place c.in-Some-read_tag.tag following in
+    let r = rule_at offset c.in-Some-read_tag.tag following in
     let F = map element_of c.loop-sign.found.items in
     let E = map element_of c.push_rule.new.found.items in
     let now : E ≡ (F ++ text (characters c.up_to.result) ∷ []) ++ element_read r ∷ [] =
@@ -67,8 +67,8 @@ loop-sign-preserved c =
     (ap (map element_of) c.in_ok-push.ensures.items
     ∙ map-append element_of c.loop-sign.found.items (Text c.up_to.result ∷ [])) in
     let all = cut_rule F (characters c.loop-sign.piece) (characters c.loop-sign.rest) next.front (characters c.in-Some.sign) _ next.parts next.first
-    c.loop-sign.invariant.cut (place, less) (characters c.in-Some.after) next.sign E (characters c.up_to.result) c.in-Some-read_tag.tag following
-    c.up_to.ensures (some_there _ _ (c.in-Some-read_tag.tag, c.in-Some-read_tag.following) _ c.in-Some-read_tag.is (c.read_tag.ensures place)) now in
+    c.loop-sign.invariant.cut (offset, less) (characters c.in-Some.after) next.sign E (characters c.up_to.result) c.in-Some-read_tag.tag following
+    c.up_to.ensures (some_there _ _ (c.in-Some-read_tag.tag, c.in-Some-read_tag.following) _ c.in-Some-read_tag.is (c.read_tag.ensures offset)) now in
     record {
       ends = ends_all c.in-Some-2.following;
       cut = record {
@@ -82,14 +82,14 @@ loop-sign-preserved c =
 
 pub loop-sign-smaller : goal.loop-sign-smaller
 loop-sign-smaller c =
-    let place = c.in-Some.sign.place in
+    let offset = c.in-Some.sign.offset in
     let following = characters c.in-Some-read_tag.following in
     let one = next_sign-shorter c.loop-sign.rest c.in-Some.sign c.in-Some.after c.in-Some.ensures.some in
     let two : length following ≤ length (characters c.in-Some.after) =
     following-shorter (characters c.in-Some.after) _ c.in-Some-read_tag.tag following
-    (some_there _ _ (c.in-Some-read_tag.tag, c.in-Some-read_tag.following) _ c.in-Some-read_tag.is (c.read_tag.ensures place)) in
+    (some_there _ _ (c.in-Some-read_tag.tag, c.in-Some-read_tag.following) _ c.in-Some-read_tag.is (c.read_tag.ensures offset)) in
     let three : length (characters c.in-Some-2.following) ≤ length following =
-    next-shorter following (characters c.in-Some-2.following) (rule_at place c.in-Some-read_tag.tag following)
+    next-shorter following (characters c.in-Some-2.following) (rule_at offset c.in-Some-read_tag.tag following)
     (some_there _ _ c.in-Some-2.following _ c.in-Some-2.is c.in_ok-following.ensures.following) in
     omega (arith, one, two, three)
 

@@ -5,12 +5,12 @@ use Rattle.lic_words.specs.Describing.{IsDescribed}
 use Rattle.lic_phrases.specs.TokenTexts.{IsTokenText}
 use Rattle.lic_norm.specs.Tokens.{TokenValue, tokens_of}
 use Rattle.lic_norm.specs.Spans.{AreTokenTexts}
-use Rattle.lic_norm.specs.declared.pieces.Next.TheVariants.{LineEnd}
+use Rattle.lic_pieces.specs.declared.pieces.Next.TheVariants.{LineEnd}
 use Rattle.lic_norm.proofs.TokenTexts.{tokens_of-AreTokenTexts}
 use Rattle.lic_markup.specs.declared.part.Part.TheVariants.{Text}
 use Rattle.lic_markup.specs.Meaning.{part_words}
 use Rattle.lic_markup.proofs.PieceLemmas.{piece_described}
-use Rattle.lic_markup.proofs.PlaceLemmas.{piece_texts-whole}
+use Rattle.lic_markup.proofs.OffsetLemmas.{piece_texts-whole}
 use Rattle.lic_markup.proofs.laws.a_text_describes_its_source.Goals as goal
 
 abbrev texts : List TokenValue → List (List ℕ)

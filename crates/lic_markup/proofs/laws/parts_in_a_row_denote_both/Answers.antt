@@ -1,9 +1,9 @@
 use Rattle.std.proofs.Common.{◌↔◌, ◌++◌, map}
 use Rattle.lic_words.specs.Words.{Cat}
 use Rattle.lic_words.specs.Expressions.{Language, cat_all}
-use Rattle.lic_words.proofs.Languages.{rows_sound, rows_complete}
+use Rattle.lic_words.proofs.Languages.{sequences_sound, sequences_complete}
 use Rattle.lic_markup.specs.Meaning.{part_words}
-use Rattle.lic_markup.proofs.MeaningLemmas.{parts_words-row, parts_words-append}
+use Rattle.lic_markup.proofs.MeaningLemmas.{parts_words-sequence, parts_words-append}
 use Rattle.lic_markup.proofs.laws.parts_in_a_row_denote_both.Goals as goal
 
 pub returns : goal.returns
@@ -11,5 +11,5 @@ returns c = λ xs ys w.
     let one = map part_words xs in
     let two = map part_words ys in
     let both : Language (cat_all (one ++ two)) w ↔ Cat (Language (cat_all one)) (Language (cat_all two)) w =
-    (rows_sound one two w, rows_complete one two w) in
-    rw (parts_words-append xs ys) (rw (parts_words-row xs) (rw (parts_words-row ys) both))
+    (sequences_sound one two w, sequences_complete one two w) in
+    rw (parts_words-append xs ys) (rw (parts_words-sequence xs) (rw (parts_words-sequence ys) both))

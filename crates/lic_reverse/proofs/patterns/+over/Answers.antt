@@ -2,12 +2,12 @@ use Rattle.std.proofs.Common.{◌≡◌, [], suc, ◌+◌, ◌-◌, ◌<◌, len
 use Rattle.lic_words.specs.Expressions.{Language}
 use Rattle.lic_ere.specs.declared.ere.Ere.{the_lemmas}
 use Rattle.lic_ere.specs.declared.ere.Ere.TheVariants.{Empty}
-use Rattle.lic_ere.specs.Trees.{row, tree_of}
-use Rattle.lic_markup.specs.Meaning.{choice_words, row_words, tree_words}
+use Rattle.lic_ere.specs.Trees.{sequence, tree_of}
+use Rattle.lic_markup.specs.Meaning.{choice_words, sequence_words, tree_words}
 use Rattle.lic_view.specs.PlaceSets.{Reaches}
 use Rattle.lic_reverse.specs.Reached.{reached_of}
 use Rattle.lic_reverse.specs.Tidily.{IsTidyBack, UpTo, spans_of}
-use Rattle.lic_reverse.proofs.EreLemmas.{choice-all, choice-item, choice-to, is_one-test, ok-changed, one-words, placed-copied, placed-joined, reached-done, reached-empty, reached-pruned, reached-start, row-all, row-item, times-all, times-more, times-same, tree_of-Alt, tree_of-Cat, tree_of-Repeat, words-changed}
+use Rattle.lic_reverse.proofs.EreLemmas.{choice-all, choice-item, choice-to, is_one-test, ok-changed, one-words, placed-copied, placed-joined, reached-done, reached-empty, reached-pruned, reached-start, sequence-all, sequence-item, times-all, times-more, times-same, tree_of-Alt, tree_of-Cat, tree_of-Repeat, words-changed}
 use Rattle.std.proofs.lemmas.List.{append-nil}
 use Rattle.lic_reverse.proofs.GroupParts.{tidy-part, tidy-part_none}
 use Rattle.lic_reverse.proofs.EmptyWords.{alone-stays}
@@ -18,8 +18,8 @@ use Rattle.lic_reverse.proofs.patterns.+over.Goals as goal
 
 pub over-returns-in-Cat : goal.over-returns-in-Cat
 over-returns-in-Cat t c =
-    words-changed c.args.keep c.args.view.now _ c.over_row.result _ _ (sym (ap tree_words (ap tree_of c.in-Cat.is ∙ tree_of-Cat c.in-Cat.subs)))
-    (rw c.deref.ensures.value at c.over_row.ensures)
+    words-changed c.args.keep c.args.view.now _ c.over_sequence.result _ _ (sym (ap tree_words (ap tree_of c.in-Cat.is ∙ tree_of-Cat c.in-Cat.subs)))
+    (rw c.deref.ensures.value at c.over_sequence.ensures)
 
 pub over-returns-in-Alt : goal.over-returns-in-Alt
 over-returns-in-Alt t c =
@@ -75,7 +75,7 @@ over_choice-loop-next-preserved t c =
       back = choice-to c.args.keep tokens (λ s q l. Reaches tokens (spans_of c.args.ways.now s) q l) c.args.subs.now (next + 1) c.after_repeated-next.result Empty
           (spans_of c.in_ok-found.found) (omega (arith, after)) c.after_repeated-next.ensures.within
           (λ k from to. c.after_repeated-next.ensures.repeated k (omega (arith, from)) to)
-          (tidy-least c.args.keep tokens (Language (choice_words (row (map tree_of (take (next + 1) c.args.subs.now)))))
+          (tidy-least c.args.keep tokens (Language (choice_words (sequence (map tree_of (take (next + 1) c.args.subs.now)))))
           (λ s q l. Reaches tokens (spans_of c.args.ways.now s) q l) (spans_of c.append.new.self) (spans_of c.in_ok-found.found)
           (choice-item c.args.keep tokens (λ s q l. Reaches tokens (spans_of c.args.ways.now s) q l) c.args.subs.now next c.index-subs-next.result
           (spans_of c.loop-next.found) (spans_of c.in_ok-more.more) (spans_of c.append.new.self)
@@ -89,7 +89,7 @@ pub over_choice-returns : goal.over_choice-returns
 over_choice-returns t c =
     let tokens = c.args.view.now in
     ok-changed _ _ c.kept.result
-    (λ found least. tidy-least c.args.keep tokens (Language (choice_words (row (map tree_of c.args.subs.now)))) (λ s q l. Reaches tokens (spans_of c.args.ways.now s) q l)
+    (λ found least. tidy-least c.args.keep tokens (Language (choice_words (sequence (map tree_of c.args.subs.now)))) (λ s q l. Reaches tokens (spans_of c.args.ways.now s) q l)
     (spans_of c.loop-next.found) (spans_of found)
     (choice-all c.args.keep tokens (λ s q l. Reaches tokens (spans_of c.args.ways.now s) q l) c.args.subs.now c.loop-next.next (spans_of c.loop-next.found) c.loop-next-test.false c.loop-next.invariant.back)
     least)
@@ -103,37 +103,37 @@ over_repeat-returns t c =
     (spans_of c.in_ok-needed.needed) (spans_of found) (let same = ap length c.bytes-length.ensures in omega (arith, same, c.bytes-length.type_inv.0)) c.in-Some.ensures c.in_ok-needed.ensures back)
     c.over_up_to.ensures
 
-pub over_row-loop-number-preserved : goal.over_row-loop-number-preserved
-over_row-loop-number-preserved t c =
+pub over_sequence-loop-number-preserved : goal.over_sequence-loop-number-preserved
+over_sequence-loop-number-preserved t c =
     let tokens = c.args.view.now in
     let below : c.loop-number.number - 1 < length c.args.subs.now = omega (arith, c.loop-number-test.true, c.loop-number.invariant.within) in
     let next : c.loop-number.number ≡ (c.loop-number.number - 1) + 1 = omega (arith, c.loop-number-test.true) in
     record {
       within = omega (arith, c.loop-number.invariant.within);
-      back = tidy-least c.args.keep tokens (Language (row_words (row (map tree_of (drop (c.loop-number.number - 1) c.args.subs.now)))))
+      back = tidy-least c.args.keep tokens (Language (sequence_words (sequence (map tree_of (drop (c.loop-number.number - 1) c.args.subs.now)))))
           (λ s q l. Reaches tokens (spans_of c.args.ways s) q l) (spans_of c.in_ok-led.led) (spans_of c.in_ok-ways.ways)
-          (row-item c.args.keep tokens (λ s q l. Reaches tokens (spans_of c.args.ways s) q l) c.args.subs.now (c.loop-number.number - 1) c.loop-number.number c.index-subs-number.result
+          (sequence-item c.args.keep tokens (λ s q l. Reaches tokens (spans_of c.args.ways s) q l) c.args.subs.now (c.loop-number.number - 1) c.loop-number.number c.index-subs-number.result
           (spans_of c.loop-number.ways) (spans_of c.in_ok-led.led) next below c.index-subs-number.is c.loop-number.invariant.back c.in_ok-led.ensures)
           c.in_ok-ways.ensures;
     }
 
 -- a pattern that has the empty word alone leads from each place to itself
-pub over_row-loop-number-preserved-then-has_empty_word_alone : goal.over_row-loop-number-preserved-then-has_empty_word_alone
-over_row-loop-number-preserved-then-has_empty_word_alone t c =
+pub over_sequence-loop-number-preserved-then-has_empty_word_alone : goal.over_sequence-loop-number-preserved-then-has_empty_word_alone
+over_sequence-loop-number-preserved-then-has_empty_word_alone t c =
     let tokens = c.args.view.now in
     let below : c.loop-number.number - 1 < length c.args.subs.now = omega (arith, c.loop-number-test.true, c.loop-number.invariant.within) in
     let next : c.loop-number.number ≡ (c.loop-number.number - 1) + 1 = omega (arith, c.loop-number-test.true) in
     record {
       within = omega (arith, c.loop-number.invariant.within);
-      back = row-item c.args.keep tokens (λ s q l. Reaches tokens (spans_of c.args.ways s) q l) c.args.subs.now (c.loop-number.number - 1) c.loop-number.number c.index-subs-number.result
+      back = sequence-item c.args.keep tokens (λ s q l. Reaches tokens (spans_of c.args.ways s) q l) c.args.subs.now (c.loop-number.number - 1) c.loop-number.number c.index-subs-number.result
           (spans_of c.loop-number.ways) (spans_of c.loop-number.ways) next below c.index-subs-number.is c.loop-number.invariant.back
           (alone-stays c.args.keep tokens (tree_words (tree_of c.index-subs-number.result)) (c.has_empty_word_alone.ensures c.if-has_empty_word_alone.true)
           (spans_of c.loop-number.ways) c.loop-number.invariant.back.placed);
     }
 
-pub over_row-returns : goal.over_row-returns
-over_row-returns t c =
-    row-all c.args.keep c.args.view.now _ c.args.subs.now c.loop-number.number (spans_of c.loop-number.ways) (omega (arith, c.loop-number-test.false)) c.loop-number.invariant.back
+pub over_sequence-returns : goal.over_sequence-returns
+over_sequence-returns t c =
+    sequence-all c.args.keep c.args.view.now _ c.args.subs.now c.loop-number.number (spans_of c.loop-number.ways) (omega (arith, c.loop-number-test.false)) c.loop-number.invariant.back
 
 pub over_times-over-requires : goal.over_times-over-requires
 over_times-over-requires t c = (

@@ -11,7 +11,7 @@ returns-clause-cut c =
     let line = c.args.line.now in
     let n = c.in_ok-lead.lead in
     let k = c.in_ok-item.item in
-    let lead : n ≡ lead_length rules whole_line line = c.in_ok-lead.ensures.row ∙ lead_on rules whole_line line refl in
+    let lead : n ≡ lead_length rules whole_line line = c.in_ok-lead.ensures.sequence ∙ lead_on rules whole_line line refl in
     let rest : take (length line - n) (drop n line) ≡ drop n line = take_rest line n in
     let item : k ≡ item_after_lead rules whole_line (drop n line) =
     c.in_ok-item.ensures.item ∙ ap (item_length rules) (rest ∙ sym (append-nil (drop n line))) in
@@ -19,7 +19,7 @@ returns-clause-cut c =
     item ∙ ap (λ m. item_after_lead rules whole_line (drop m line)) lead in
     let left = take_rest (take (length line - n) (drop n line)) k ∙ ap (drop k) rest in
     let tail : c.in_ok-tail.tail ≡ tail_length rules whole_line (drop k (drop n line)) =
-    c.in_ok-tail.ensures.row ∙ tail_on rules whole_line (drop k (drop n line)) _ left refl in
+    c.in_ok-tail.ensures.sequence ∙ tail_on rules whole_line (drop k (drop n line)) _ left refl in
     let tail' : c.in_ok-tail.tail
     ≡ tail_length rules whole_line
     (drop (item_after_lead rules whole_line (drop (lead_length rules whole_line line) line))

@@ -11,6 +11,6 @@ returns c = λ _.
     let n = c.in-Some.lead in
     let rest = take (length line - n) (drop n line) in
     let front = c.in-Some.ensures in
-    let end = c.in-Some-space_row.ensures in
-    takes_spaces rules line rest n c.in-Some-space_row._tail (take_rest line n) front.row front.within
-    (c.has_no_item.ensures c.if-not-has_no_item.false rules) end.row end.within front.white end.white
+    let end = c.in-Some-space_sequence.ensures in
+    takes_spaces rules line rest n c.in-Some-space_sequence._tail (take_rest line n) front.sequence front.within
+    (c.has_no_item.ensures c.if-not-has_no_item.false rules) end.sequence end.within front.white end.white

@@ -13,7 +13,7 @@ returns-in_ok-tail-clause-cut c =
     let line = c.args.line.now in
     let text = chars_of line in
     let lead : c.if-part.lead ≡ lead_length rules part text = elim c.if-part.branch [
-      | then-part+in_ok-lead w ↦ w.lead-is ∙ w.in_ok-lead.ensures.row ∙ lead_on rules part text w.if-part.true
+      | then-part+in_ok-lead w ↦ w.lead-is ∙ w.in_ok-lead.ensures.sequence ∙ lead_on rules part text w.if-part.true
       | else-part w ↦ w.lead-is ∙ lead_off rules part text w.if-part.false
     ] in
     let rest : chars_of (take (length line - c.if-part.lead) (drop c.if-part.lead line)) ≡ drop c.if-part.lead text = chars_of-rest line c.if-part.lead in
@@ -23,7 +23,7 @@ returns-in_ok-tail-clause-cut c =
     ] in
     let left = chars_of-rest (take (length line - c.if-part.lead) (drop c.if-part.lead line)) c.if-part-2.item ∙ ap (drop c.if-part-2.item) rest in
     let tail : c.in_ok-tail.tail ≡ tail_length rules part (drop c.if-part-2.item (drop c.if-part.lead text)) =
-    c.in_ok-tail.ensures.row ∙ tail_on rules part (drop c.if-part-2.item (drop c.if-part.lead text)) _ left c.if-part-3.true in
+    c.in_ok-tail.ensures.sequence ∙ tail_on rules part (drop c.if-part-2.item (drop c.if-part.lead text)) _ left c.if-part-3.true in
     let item' : c.if-part-2.item ≡ item_after_lead rules part (drop (lead_length rules part text) text) =
     item ∙ ap (λ n. item_after_lead rules part (drop n text)) lead in
     let tail' = tail ∙ ap₂ (λ m n. tail_length rules part (drop m (drop n text))) item' lead in
@@ -36,7 +36,7 @@ returns-else-part-3-clause-cut c =
     let line = c.args.line.now in
     let text = chars_of line in
     let lead : c.if-part.lead ≡ lead_length rules part text = elim c.if-part.branch [
-      | then-part+in_ok-lead w ↦ w.lead-is ∙ w.in_ok-lead.ensures.row ∙ lead_on rules part text w.if-part.true
+      | then-part+in_ok-lead w ↦ w.lead-is ∙ w.in_ok-lead.ensures.sequence ∙ lead_on rules part text w.if-part.true
       | else-part w ↦ w.lead-is ∙ lead_off rules part text w.if-part.false
     ] in
     let rest : chars_of (take (length line - c.if-part.lead) (drop c.if-part.lead line)) ≡ drop c.if-part.lead text = chars_of-rest line c.if-part.lead in

@@ -6,7 +6,7 @@ use Rattle.lic_ere.proofs.remaining.Remaining.split_first.Goals as goal
 
 pub returns-in_err-character-clause-none : goal.returns-in_err-character-clause-none
 returns-in_err-character-clause-none c =
-    rw c.from_residual.ensures (none_left c.args.self.place c.args.self.text.now
+    rw c.from_residual.ensures (none_left c.args.self.offset c.args.self.text.now
     (ap length (sym c.chars-chars.ensures.rest) ∙ c.in_err-character.ensures.steps.0.0))
 
 pub invariant_of-rest : goal.invariant_of-rest
@@ -26,5 +26,5 @@ returns-clause-some c =
     let rest : List ℕ = c.as_str.result.now in
     let came : bs ≡ encode_utf8 character ++ rest =
     sym c.chars-chars.ensures.rest ∙ c.in_ok-character.ensures.steps.0 ∙ ap (λ r. encode_utf8 character ++ r) (sym c.as_str.ensures) in
-    one_left c.args.self.place _ bs rest character (IsUtf8-from_is_utf8 bs c.args.self.utf8) came
-    (ap (λ (n : ℕ). c.args.self.place + n) c.len_utf8.ensures.value)
+    one_left c.args.self.offset _ bs rest character (IsUtf8-from_is_utf8 bs c.args.self.utf8) came
+    (ap (λ (n : ℕ). c.args.self.offset + n) c.len_utf8.ensures.value)

@@ -1,4 +1,4 @@
--- A place more in a list; the windows stay.
+-- An offset more in a list; the windows stay.
 use Rattle.std.proofs.Common.{◌≡◌, ℕ, ◌<◌, [], length, get_or, map, set, sym, ap, ◌∙◌, subst, arith}
 use Rattle.std.specs.List.{Contains, slice_get}
 use Rattle.std.specs.List.Sorted.{IsStrictlyIncreasing}
@@ -14,9 +14,9 @@ pub invariant_of-self : goal.invariant_of-self
 invariant_of-self c =
     let old = c.args.self.now in
     let was = c.index_mut-one.result.now in
-    let one : Occurrence = record { window = was.window; places = c.insert.new.numbers } in
+    let one : Occurrence = record { window = was.window; offsets = c.insert.new.numbers } in
     record {
-      rising = All-set (λ s. IsStrictlyIncreasing s.places.items) old.occurrences.items c.args.slot one c.insert.ensures.rising old.rising;
+      rising = All-set (λ s. IsStrictlyIncreasing s.offsets.items) old.occurrences.items c.args.slot one c.insert.ensures.rising old.rising;
       placed = λ i slot at.
           ap (λ windows. slice_get windows slot)
           (map-set_same (λ s. s.window) old.occurrences.items c.args.slot one was (ap (λ s. s.window) c.index_mut-one.ensures.value))
@@ -27,9 +27,9 @@ pub invariant_of-self-2 : goal.invariant_of-self-2
 invariant_of-self-2 c =
     let old = c.args.self.now in
     let was = c.index_mut-one.result.now in
-    let one : Occurrence = record { window = was.window; places = c.insert.new.numbers } in
+    let one : Occurrence = record { window = was.window; offsets = c.insert.new.numbers } in
     record {
-      rising = All-set (λ s. IsStrictlyIncreasing s.places.items) old.occurrences.items c.args.slot one c.insert.ensures.rising old.rising;
+      rising = All-set (λ s. IsStrictlyIncreasing s.offsets.items) old.occurrences.items c.args.slot one c.insert.ensures.rising old.rising;
       placed = λ i slot at.
           ap (λ windows. slice_get windows slot)
           (map-set_same (λ s. s.window) old.occurrences.items c.args.slot one was (ap (λ s. s.window) c.index_mut-one.ensures.value))
@@ -43,18 +43,18 @@ returns c = λ window at.
     let slot = c.args.slot in
     let was = c.index_mut-one.result.now in
     let now = c.insert.new.numbers.items in
-    let one : Occurrence = record { window = was.window; places = c.insert.new.numbers } in
+    let one : Occurrence = record { window = was.window; offsets = c.insert.new.numbers } in
     let count = c.saturating_add-self.result in
-    let within : slot < length lists = omega (arith, length-map old.occurrences.items (λ s. s.places.items), c.requires) in
-    let before : was.places.items ≡ get_or lists slot [] =
-    ap (λ s. s.places.items) c.index_mut-one.ensures.value ∙ sym (get_or-map (λ s. s.places.items) old.occurrences.items slot was [] c.requires) in
+    let within : slot < length lists = omega (arith, length-map old.occurrences.items (λ s. s.offsets.items), c.requires) in
+    let before : was.offsets.items ≡ get_or lists slot [] =
+    ap (λ s. s.offsets.items) c.index_mut-one.ensures.value ∙ sym (get_or-map (λ s. s.offsets.items) old.occurrences.items slot was [] c.requires) in
     let kept : (p : ℕ) → Contains (get_or lists slot []) p → Contains now p =
     λ p h. c.insert.ensures.kept p (subst (λ xs. Contains xs p) (sym before) h) in
-    let after : map (λ s. s.places.items) (set old.occurrences.items slot one) ≡ set lists slot now = map-set (λ s. s.places.items) old.occurrences.items slot one in
+    let after : map (λ s. s.offsets.items) (set old.occurrences.items slot one) ≡ set lists slot now = map-set (λ s. s.offsets.items) old.occurrences.items slot one in
     record {
       noted =
-          subst (λ ls. IsListed (slot_of old) ls count window c.args.place) (sym after)
-          (more_noted (slot_of old) lists slot now within kept count window c.args.place at c.in_ok-insert.ensures.inserted);
+          subst (λ ls. IsListed (slot_of old) ls count window c.args.offset) (sym after)
+          (more_noted (slot_of old) lists slot now within kept count window c.args.offset at c.in_ok-insert.ensures.inserted);
       kept = λ i p h.
           subst (λ ls. IsListed (slot_of old) ls count i p) (sym after)
           (more_kept (slot_of old) lists slot now within kept old.count count (omega (arith, c.saturating_add-self.ensures)) i p h);

@@ -3,24 +3,24 @@ use Rattle.std.proofs.Common.{◌+◌, ◌<◌, [], ◌∷◌, ◌++◌, get_or,
 use Rattle.std.proofs.lemmas.Bool.{le-leb, lt-leb}
 use Rattle.lic_literals.proofs.KeptLemmas.{shifted_in, shifted_out}
 use Rattle.lic_literals.proofs.kept.Ends.list.Goals as goal
-use Rattle.lic_literals.proofs.kept.Ends.list.Goals.{then-place-self+then-self-place+in_ok-push, else-place-self, else-place-self-via-then-place-self+else-self-place, else-place-self-via-else-place-self}
+use Rattle.lic_literals.proofs.kept.Ends.list.Goals.{then-offset-self+then-self-offset+in_ok-push, else-offset-self, else-offset-self-via-then-offset-self+else-self-offset, else-offset-self-via-else-offset-self}
 
-pub loop-place-preserved : goal.loop-place-preserved
-loop-place-preserved c =
+pub loop-offset-preserved : goal.loop-offset-preserved
+loop-offset-preserved c =
     let by = c.args.self.now.to_end in
     let limit = c.args.self.now.limit in
-    let places = c.places-place-items.result.now in
-    let i = c.loop-place.place-index in
-    let p = get_or places i 0 in
-    elim c.if-place-self.branch [
-      | then-place-self+then-self-place+in_ok-push w ↦
-          ap (λ list. list.items) w.ends-is ∙ w.in_ok-push.ensures.items ∙ ap (λ ends. ends ++ (p + by) ∷ []) c.loop-place.invariant
-          ∙ sym (shifted_in by limit places i p c.loop-place-test.true refl (le-leb (p + by) limit (omega arith)))
-      | else-place-self w ↦
+    let offsets = c.offsets-offset-items.result.now in
+    let i = c.loop-offset.offset-index in
+    let p = get_or offsets i 0 in
+    elim c.if-offset-self.branch [
+      | then-offset-self+then-self-offset+in_ok-push w ↦
+          ap (λ list. list.items) w.ends-is ∙ w.in_ok-push.ensures.items ∙ ap (λ ends. ends ++ (p + by) ∷ []) c.loop-offset.invariant
+          ∙ sym (shifted_in by limit offsets i p c.loop-offset-test.true refl (le-leb (p + by) limit (omega arith)))
+      | else-offset-self w ↦
           let past : limit < p + by =
-          elim w.else-place-self.branch [
-            | else-place-self-via-then-place-self+else-self-place u ↦ omega arith
-            | else-place-self-via-else-place-self u ↦ omega arith
+          elim w.else-offset-self.branch [
+            | else-offset-self-via-then-offset-self+else-self-offset u ↦ omega arith
+            | else-offset-self-via-else-offset-self u ↦ omega arith
           ] in
-          ap (λ list. list.items) w.ends-is ∙ c.loop-place.invariant ∙ sym (shifted_out by limit places i p c.loop-place-test.true refl (lt-leb (p + by) limit past))
+          ap (λ list. list.items) w.ends-is ∙ c.loop-offset.invariant ∙ sym (shifted_out by limit offsets i p c.loop-offset-test.true refl (lt-leb (p + by) limit past))
     ]

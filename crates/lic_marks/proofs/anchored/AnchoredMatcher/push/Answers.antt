@@ -2,7 +2,7 @@ use Rattle.std.proofs.Common.{◌≡◌, ℕ, List, [], ◌∷◌, ◌++◌, sym
 use Rattle.std.specs.Str.{chars}
 use Rattle.lic_words.specs.Words.{blank}
 use Rattle.lic_words.specs.Spelling.{gapped, last_letter}
-use Rattle.lic_words.proofs.Rows.{last_of-snoc}
+use Rattle.lic_words.proofs.Sequences.{last_of-snoc}
 use Rattle.lic_marks.proofs.TokenRows.{gapped-snoc}
 use Rattle.lic_marks.proofs.anchored.AnchoredMatcher.push.Goals as goal
 

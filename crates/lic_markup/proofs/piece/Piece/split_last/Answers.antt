@@ -7,7 +7,7 @@ use Rattle.lic_markup.proofs.piece.Piece.split_last.Goals as goal
 
 pub returns-in_err-character-clause-none : goal.returns-in_err-character-clause-none
 returns-in_err-character-clause-none c =
-    rw c.from_residual.ensures (none_left c.args.self.place c.args.self.text.now
+    rw c.from_residual.ensures (none_left c.args.self.offset c.args.self.text.now
     (ap length (sym c.chars-chars.ensures.rest) ∙ c.in_err-character.ensures.steps.0))
 
 pub invariant_of-before : goal.invariant_of-before
@@ -25,5 +25,5 @@ returns-clause-some c =
     let character = c.in_ok-character.character in
     let scalar : IsScalar character = search (rules) in
     let front : List ℕ = c.as_str.result.now in
-    last_left c.args.self.place c.args.self.text.now front character c.as_str.utf8 scalar
+    last_left c.args.self.offset c.args.self.text.now front character c.as_str.utf8 scalar
     (sym c.chars-chars.ensures.rest ∙ c.in_ok-character.ensures.steps ∙ ap (λ r. r ++ encode_utf8 character) (sym c.as_str.ensures))

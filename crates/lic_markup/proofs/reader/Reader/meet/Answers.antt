@@ -12,7 +12,7 @@ pub returns-in-Refused-clause-state : goal.returns-in-Refused-clause-state
 unfolding meet
 returns-in-Refused-clause-state c =
     let f = c.reported_again.result in
-    subst (λ (e : Element). Fails f.cause f.place
+    subst (λ (e : Element). Fails f.cause f.offset
     (meet (rules_of c.args.rules.now) c.args.words.now (element_of e) c.args.follows
     (state_of c.args.self.now))) (sym c.in-Refused.is)
     (Fails-reported State c.in-Refused.fault f c.reported_again.ensures)

@@ -1,4 +1,4 @@
-use Rattle.std.proofs.Common.{◌++◌, ap, sym, subst, ◌∙◌}
+use Rattle.std.proofs.Common.{◌++◌, ap, length, sym, subst, ◌∙◌}
 use Rattle.lic_kind.specs.LineRules.{rules_of}
 use Rattle.lic_trim.specs.Sources.{placed}
 use Rattle.lic_lines.specs.Tokens.{single_signs}
@@ -8,28 +8,34 @@ use Rattle.lic_norm.proofs.AsciiLines.{first_tokens_of-ascii}
 use Rattle.lic_norm.proofs.TokenTexts.{lines-texts}
 use Rattle.lic_norm.proofs.reader.line_tokens.take_ascii.Goals as goal
 
-pub of-requires : goal.of-requires
-of-requires c =
+pub of-stretch-requires : goal.of-stretch-requires
+of-stretch-requires c =
     let read = c.in_ok-read.ensures in
     record { ascii = read.ascii; paired = read.paired; from = read.from; some = read.some; to = read.to }
 
 pub take_stretch-requires-clause-texts : goal.take_stretch-requires-clause-texts
 take_stretch-requires-clause-texts c =
-    subst HaveTexts (sym (c.of.ensures ∙ c.in_ok-read.ensures.tokens))
+    subst HaveTexts (sym (c.of-stretch.ensures ∙ c.in_ok-read.ensures.tokens))
     (lines-texts (rules_of c.args.rules.now) (placed c.args.at c.args.text.now))
 
 pub returns-then-text-gt-MAX_KEPT-clause-taken : goal.returns-then-text-gt-MAX_KEPT-clause-taken
 returns-then-text-gt-MAX_KEPT-clause-taken c = λ taken has.
     let rules = rules_of c.args.rules.now in
     subst (λ ts. HasTaken c.take_stretch.new.self (taken ++ ts))
-    (ap single_signs (c.of.ensures ∙ c.in_ok-read.ensures.tokens)
+    (ap single_signs (c.of-stretch.ensures ∙ c.in_ok-read.ensures.tokens)
     ∙ first_tokens_of-ascii rules c.args.at c.args.text.now c.utf8.text c.requires.ascii)
     (c.in_ok-take_stretch.ensures.taken taken has)
+
+pub returns-then-text-gt-MAX_KEPT-clause-count : goal.returns-then-text-gt-MAX_KEPT-clause-count
+returns-then-text-gt-MAX_KEPT-clause-count c = c.len-count.ensures ∙ ap length (c.of-stretch.ensures ∙ c.in_ok-read.ensures.tokens)
 
 pub returns-else-text-gt-MAX_KEPT-clause-taken : goal.returns-else-text-gt-MAX_KEPT-clause-taken
 returns-else-text-gt-MAX_KEPT-clause-taken c = λ taken has.
     let rules = rules_of c.args.rules.now in
     subst (λ ts. HasTaken c.take_stretch.new.self (taken ++ ts))
-    (ap single_signs (c.of.ensures ∙ c.in_ok-read.ensures.tokens)
+    (ap single_signs (c.of-stretch.ensures ∙ c.in_ok-read.ensures.tokens)
     ∙ first_tokens_of-ascii rules c.args.at c.args.text.now c.utf8.text c.requires.ascii)
     (c.in_ok-take_stretch.ensures.taken taken has)
+
+pub returns-else-text-gt-MAX_KEPT-clause-count : goal.returns-else-text-gt-MAX_KEPT-clause-count
+returns-else-text-gt-MAX_KEPT-clause-count c = c.len-count.ensures ∙ ap length (c.of-stretch.ensures ∙ c.in_ok-read.ensures.tokens)

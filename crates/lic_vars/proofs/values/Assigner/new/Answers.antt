@@ -1,7 +1,7 @@
 -- The steps of the template of the number.
 use Rattle.std.proofs.Common.{List, map, ap, ◌∙◌}
 use Rattle.lic_markup.specs.declared.part.Part.{Part}
-use Rattle.lic_markup.specs.Parts.{TemplateValue, row, part_of}
+use Rattle.lic_markup.specs.Parts.{TemplateValue, sequence, part_of}
 use Rattle.lic_vars.specs.Moves.{moves}
 use Rattle.lic_vars.proofs.AssignLemmas.{parts-of}
 use Rattle.lic_vars.proofs.values.Assigner.new.Goals as goal
@@ -12,5 +12,5 @@ invariant_of-result c = record {
   moves = λ known number.
       let parts = parts-of c.args.set.now c.args.template known c.parts.result.now number
       (λ d. c.parts.ensures ∙ ap (λ (t : TemplateValue). t.parts) (c.template-parsed.ensures d)) in
-      c.in_ok-steps.ensures.moves ∙ ap (λ (ps : List Part). moves (row (map part_of ps))) parts;
+      c.in_ok-steps.ensures.moves ∙ ap (λ (ps : List Part). moves (sequence (map part_of ps))) parts;
 }

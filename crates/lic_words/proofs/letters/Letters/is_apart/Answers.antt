@@ -3,7 +3,7 @@ use Rattle.std.specs.Str.{chars}
 use Rattle.std.proofs.lemmas.Bool.{cases_eq}
 use Rattle.std.proofs.lemmas.Str.{IsUtf8-from_is_utf8}
 use Rattle.lic_words.specs.Spelling.{gapped_from, apart_after}
-use Rattle.lic_words.proofs.Rows.{apart_after-gap}
+use Rattle.lic_words.proofs.Sequences.{apart_after-gap}
 use Rattle.lic_words.proofs.ReadLetters.{none_left, apart_left}
 use Rattle.lic_words.proofs.letters.Letters.is_apart.Goals as goal
 

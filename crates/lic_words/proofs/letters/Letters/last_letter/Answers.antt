@@ -1,5 +1,5 @@
 use Rattle.std.specs.Str.{chars}
-use Rattle.lic_words.proofs.Rows.{last_letter-none}
+use Rattle.lic_words.proofs.Sequences.{last_letter-none}
 use Rattle.lic_words.proofs.letters.Letters.last_letter.Goals as goal
 
 pub returns : goal.returns

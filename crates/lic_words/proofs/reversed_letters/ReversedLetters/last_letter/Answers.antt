@@ -1,6 +1,6 @@
 use Rattle.std.proofs.Common.{reverse}
 use Rattle.std.specs.Str.{chars}
-use Rattle.lic_words.proofs.Rows.{last_letter-none}
+use Rattle.lic_words.proofs.Sequences.{last_letter-none}
 use Rattle.lic_words.proofs.reversed_letters.ReversedLetters.last_letter.Goals as goal
 
 pub returns : goal.returns

@@ -1,4 +1,4 @@
--- The windows around one place more are noted.
+-- The windows around one offset more are noted.
 use Rattle.std.proofs.Common.{◌+◌, ◌≤◌, sym, ◌∙◌, subst, arith}
 use Rattle.std.proofs.lemmas.Bool.{false≢true}
 use Rattle.lic_literals.specs.Hashes.{gram_mark, hash_of}
@@ -9,27 +9,27 @@ use Rattle.lic_literals.proofs.TableLemmas.{all_done, all_more, gram_marked, non
 use Rattle.lic_literals.proofs.tables.table.Table.note_all.Goals as goal
 use Rattle.lic_literals.proofs.tables.table.Table.note_all.Goals.{then-has+in_ok-note_around, else-has}
 
-pub loop-place-preserved : goal.loop-place-preserved
-loop-place-preserved g c =
+pub loop-offset-preserved : goal.loop-offset-preserved
+loop-offset-preserved g c =
     let table = c.args.self.now in
     let bytes = c.args.bytes.now in
-    let place = c.loop-place.place in
-    let old = c.loop-place.hits in
+    let offset = c.loop-offset.offset in
+    let old = c.loop-offset.hits in
     let more = all_more table bytes c.requires.sizes c.args.hits.now old in
     record {
-      place = omega (arith, c.requires.sizes.few, c.requires.sizes.long);
+      offset = omega (arith, c.requires.sizes.few, c.requires.sizes.long);
       notes =
           elim c.if-has.branch [
             | then-has+in_ok-note_around w ↦
-                subst (NotesWhere table bytes (λ p. p + g.row.STEP ≤ place + g.row.STEP) c.args.hits.now) (sym w.hits-is)
-                (more w.note_around.new.hits w.in_ok-note_around.ensures.kept place c.loop-place.invariant.notes
+                subst (NotesWhere table bytes (λ p. p + g.row.STEP ≤ offset + g.row.STEP) c.args.hits.now) (sym w.hits-is)
+                (more w.note_around.new.hits w.in_ok-note_around.ensures.kept offset c.loop-offset.invariant.notes
                 (λ v i p has occurs a b. w.in_ok-note_around.ensures.found v i p has occurs (a, b)))
             | else-has w ↦
-                subst (NotesWhere table bytes (λ p. p + g.row.STEP ≤ place + g.row.STEP) c.args.hits.now) (sym w.hits-is)
-                (more old (λ i p h. h) place c.loop-place.invariant.notes
+                subst (NotesWhere table bytes (λ p. p + g.row.STEP ≤ offset + g.row.STEP) c.args.hits.now) (sym w.hits-is)
+                (more old (λ i p h. h) offset c.loop-offset.invariant.notes
                 (λ v i p has occurs a b.
-                let marked : Has table.grams (gram_mark (hash_of (gram_at g.row.GRAM bytes place))) =
-                (gram_marked table bytes c.requires.sizes v i p place has occurs a b).anywhere in
+                let marked : Has table.grams (gram_mark (hash_of (gram_at g.row.GRAM bytes offset))) =
+                (gram_marked table bytes c.requires.sizes v i p offset has occurs a b).anywhere in
                 let same : Has table.grams c.mark_of.result =
                 subst (Has table.grams) (sym c.mark_of.ensures.value)
                 (subst (λ h. Has table.grams (gram_mark h)) (sym c.hash-hash.ensures) marked) in
@@ -42,4 +42,4 @@ returns-then-is_empty g c = none_noted c.args.self.now c.args.bytes.now c.args.h
 
 pub returns : goal.returns
 returns g c =
-    all_done c.args.self.now c.args.bytes.now c.requires.sizes c.args.hits.now c.loop-place.hits c.loop-place.place c.loop-place-test.false c.loop-place.invariant.notes
+    all_done c.args.self.now c.args.bytes.now c.requires.sizes c.args.hits.now c.loop-offset.hits c.loop-offset.offset c.loop-offset-test.false c.loop-offset.invariant.notes

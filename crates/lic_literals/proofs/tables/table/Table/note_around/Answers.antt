@@ -1,4 +1,4 @@
--- A window that begins one place earlier is noted, if it is there.
+-- A window that begins one offset earlier is noted, if it is there.
 use Rattle.std.proofs.Common.{◌≡◌, ℕ, ◌+◌, ◌-◌, sym, ◌∙◌, subst, arith}
 use Rattle.std.proofs.lemmas.Bool.{false≢true}
 use Rattle.lic_literals.specs.Hashes.{hash_of, start_mark}
@@ -7,38 +7,38 @@ use Rattle.lic_literals.specs.Sizes.{gram_at}
 use Rattle.lic_literals.specs.Tables.{NotesWhere}
 use Rattle.lic_literals.proofs.TableLemmas.{IsLate, around_more, gram_marked}
 use Rattle.lic_literals.proofs.tables.table.Table.note_around.Goals as goal
-use Rattle.lic_literals.proofs.tables.table.Table.note_around.Goals.{then-start-place+then-has+in_ok-note_at, else-start-place, else-start-place-via-then-start-place+else-has, else-start-place-via-else-start-place}
+use Rattle.lic_literals.proofs.tables.table.Table.note_around.Goals.{then-start-offset+then-has+in_ok-note_at, else-start-offset, else-start-offset-via-then-start-offset+else-has, else-start-offset-via-else-start-offset}
 
 pub loop-back-preserved : goal.loop-back-preserved
 loop-back-preserved g c =
     let table = c.args.self.now in
     let bytes = c.args.bytes.now in
-    let place = c.args.place in
+    let offset = c.args.offset in
     let old = c.loop-back.hits in
     let more = around_more table bytes c.requires.sizes c.args.hits.now old in
-    elim c.if-start-place.branch [
-      | then-start-place+then-has+in_ok-note_at w ↦
-          subst (λ hits. NotesWhere table bytes (IsLate table bytes c.requires.sizes place (c.loop-back.back + 1)) c.args.hits.now hits) (sym w.hits-is)
-          (more w.note_at.new.hits w.in_ok-note_at.ensures.kept place c.loop-back.back c.loop-back.invariant
+    elim c.if-start-offset.branch [
+      | then-start-offset+then-has+in_ok-note_at w ↦
+          subst (λ hits. NotesWhere table bytes (IsLate table bytes c.requires.sizes offset (c.loop-back.back + 1)) c.args.hits.now hits) (sym w.hits-is)
+          (more w.note_at.new.hits w.in_ok-note_at.ensures.kept offset c.loop-back.back c.loop-back.invariant
           (λ v i p has occurs a b here. w.in_ok-note_at.ensures.found v i p has occurs (omega arith)))
-      | else-start-place w ↦
-          subst (λ hits. NotesWhere table bytes (IsLate table bytes c.requires.sizes place (c.loop-back.back + 1)) c.args.hits.now hits) (sym w.hits-is)
-          (more old (λ i p h. h) place c.loop-back.back c.loop-back.invariant
+      | else-start-offset w ↦
+          subst (λ hits. NotesWhere table bytes (IsLate table bytes c.requires.sizes offset (c.loop-back.back + 1)) c.args.hits.now hits) (sym w.hits-is)
+          (more old (λ i p h. h) offset c.loop-back.back c.loop-back.invariant
           (λ v i p has occurs a b here.
           let start : ℕ = g.row.STEP - 1 - c.loop-back.back in
-          let at : place - p ≡ start = omega arith in
-          let marked = gram_marked table bytes c.requires.sizes v i p place has occurs a b in
+          let at : offset - p ≡ start = omega arith in
+          let marked = gram_marked table bytes c.requires.sizes v i p offset has occurs a b in
           absurd
-          (elim w.else-start-place.branch [
-            | else-start-place-via-then-start-place+else-has u ↦
+          (elim w.else-start-offset.branch [
+            | else-start-offset-via-then-start-offset+else-has u ↦
                 let mark : start_mark c.args.hash start ≡ u.start_mark_of.result = sym u.start_mark_of.ensures.value in
-                let there : Has table.starts (start_mark (hash_of (gram_at g.row.GRAM bytes place)) (place - p)) = marked.there in
+                let there : Has table.starts (start_mark (hash_of (gram_at g.row.GRAM bytes offset)) (offset - p)) = marked.there in
                 let same : Has table.starts u.start_mark_of.result =
                 subst (Has table.starts) mark
                 (subst (λ s. Has table.starts (start_mark c.args.hash s)) at
-                (subst (λ h. Has table.starts (start_mark h (place - p))) (sym c.requires.hash) there)) in
+                (subst (λ h. Has table.starts (start_mark h (offset - p))) (sym c.requires.hash) there)) in
                 false≢true (sym u.if-has.false ∙ u.has.ensures.1 same)
-            | else-start-place-via-else-start-place u ↦ omega arith
+            | else-start-offset-via-else-start-offset u ↦ omega arith
           ])))
     ]
 

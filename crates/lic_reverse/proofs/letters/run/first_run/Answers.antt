@@ -1,6 +1,0 @@
-use Rattle.std.proofs.Common.{refl}
-use Rattle.lic_reverse.proofs.KnownRuns.{longest-first}
-use Rattle.lic_reverse.proofs.letters.run.first_run.Goals as goal
-
-pub returns : goal.returns
-returns c = λ bytes passes count. longest-first bytes passes count _ refl refl refl

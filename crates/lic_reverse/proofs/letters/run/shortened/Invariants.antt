@@ -1,8 +1,0 @@
-use Rattle.std.proofs.Common.{ℕ, ◌+◌, ◌-◌, Bool}
-use Rattle.lic_reverse.specs.Runs.{IsChain}
-use Rattle.lic_reverse.proofs.letters.run.shortened.Given as goal
-
--- so many letters of a chain are left
-abbrev pub invariant-loop : goal.invariant-loop
-invariant-loop l = (passes : ℕ → Bool) (number place : ℕ) → IsChain l.bytes passes (l.many + number) l.low place →
-    IsChain l.bytes passes ((l.many - l.counter) + number) l.from place

@@ -1,7 +1,0 @@
-use Rattle.lic_kind.specs.LineRules.{rules_of}
-use Rattle.lic_trim.specs.Walks.{walked, is_walked_piece}
-use Rattle.lic_trim.proofs.RowPlaces.{AreEnds}
-use Rattle.lic_trim.proofs.ascii_rows.row_by_places.Given as goal
-
-abbrev pub invariant-loop-at : goal.invariant-loop-at
-invariant-loop-at l = AreEnds (is_walked_piece (rules_of l.rules) l.side) (walked l.side l.line) l.at l.ends l.longest

@@ -1,0 +1,23 @@
+use Rattle.std.proofs.Common.{◌≡◌, ◌&&◌, ◌||◌, true, false, ◌==◌, length, drop, ap, sym, ◌∙◌, arith}
+use Rattle.lic_trim.specs.PieceLengths.{has_bit}
+use Rattle.lic_trim.specs.Walks.{walked, begins_with_text}
+use Rattle.lic_trim.proofs.PieceLengths.{has_bit_set, or-false}
+use Rattle.lic_trim.proofs.Walking.{length-walked}
+use Rattle.lic_trim.proofs.ascii_sequences.with_text.Goals as goal
+
+pub returns-then-not-stands : goal.returns-then-not-stands
+returns-then-not-stands c = λ n.
+    let way = drop c.args.place (walked c.args.side c.args.line.now) in
+    let text = walked c.args.side c.args.text.now in
+    let off : begins_with_text way text ≡ false = sym c.stands.ensures ∙ c.if-not-stands.true in
+    sym (ap (λ b. has_bit c.args.mask n || (b && (length text == n))) off ∙ or-false (has_bit c.args.mask n))
+
+pub returns : goal.returns
+returns c = λ n.
+    let way = drop c.args.place (walked c.args.side c.args.line.now) in
+    let text = walked c.args.side c.args.text.now in
+    let on : begins_with_text way text ≡ true = sym c.stands.ensures ∙ c.if-not-stands.false in
+    let long : length c.args.text.now ≡ length text = sym (length-walked c.args.side c.args.text.now) in
+    has_bit_set c.args.mask (length c.args.text.now) n (omega arith)
+    ∙ ap (λ k. has_bit c.args.mask n || (k == n)) long
+    ∙ sym (ap (λ b. has_bit c.args.mask n || (b && (length text == n))) on)

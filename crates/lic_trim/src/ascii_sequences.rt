@@ -1,0 +1,327 @@
+//! The longest sequence of pieces at a side of a line of ASCII, from one place where a sequence ends to the next.
+ghost use Rattle.std.specs.Prelude.{◌≡◌, ◌≢◌, ◌+◌, ◌<◌, ◌≤◌, ◌&&◌, ◌||◌, ◌==◌, ℕ, suc, true, false, if◌then◌else◌, [], IfSome};
+ghost use Rattle.std.specs.Prelude.{nat_le, nat_lt, length, take, drop, reverse, slice_index, slice_index_or};
+ghost use Rattle.std.specs.Char.{is_whitespace};
+ghost use Rattle.std.specs.List.{list_any};
+ghost use Rattle.lic_kind.specs.LineRules.{texts_of, rules_of};
+ghost use Rattle.lic_trim.specs.Leads.{AreLeads};
+ghost use Rattle.lic_trim.specs.PieceLengths.{has_bit, begins_with_length, begins_with_separator, begins_with_spaced, goes_on, AreLengths};
+ghost use Rattle.lic_trim.specs.Texts.{is_sequence, longest_front};
+ghost use Rattle.lic_trim.specs.Walks.{walked, is_walked_piece, side_texts, side_repeated};
+ghost use Rattle.lic_trim.specs.Walks.{End};
+
+use crate::ascii_cut::byte_at;
+use crate::ascii_texts::stands;
+use crate::leads::Leads;
+use crate::sequences::{is_mark, side_spaced};
+use crate::side::Side;
+use crate::space_sequences::quick_table;
+use lic_kind::{RuleKind, Rules, Texts};
+
+/// The longest text whose length is given by a bit.
+const LONGEST: usize = 62;
+
+/// The longest separator. A longer one is walked over once, and not from each of its places.
+const LONGEST_SEPARATOR: usize = 16;
+
+/// The shortest separator.
+const SHORTEST_SEPARATOR: usize = 3;
+
+/// Bit 1 where the character is white space, which is a piece by itself.
+#[inline(always)]
+fn space_length(c: char) -> u64
+    ensures { (n : ℕ) → has_bit result n ≡ (is_whitespace c && (n == 1)) }
+{
+    if c.is_whitespace() { 2 } else { 0 }
+}
+
+/// Adds bit n where this text of n characters comes after this place of the way. Nothing is said where it is very long.
+#[inline(always)]
+fn with_text(mask: u64, side: Side, text: &[char], line: &[u8], place: usize) -> Option<u64>
+    requires { place ≤ length line.now }
+    ensures { IfSome result (λ new. (n : ℕ) → has_bit new n
+        ≡ (has_bit mask n || begins_with_length n (drop place (walked side line.now)) (walked side text.now))) }
+{
+    if !stands(side, text, line, place) {
+        return Some(mask);
+    }
+    if text.len() > LONGEST {
+        return None;
+    }
+    Some(mask | 1 << text.len())
+}
+
+/// The lengths of the texts that come after this place of the way.
+fn text_lengths(side: Side, texts: &Texts, line: &[u8], place: usize) -> Option<u64>
+    requires { place ≤ length line.now }
+    ensures { IfSome result (λ mask. (n : ℕ) → has_bit mask n
+        ≡ list_any (λ t. begins_with_length n (drop place (walked side line.now)) (walked side t)) (texts_of texts.now)) }
+{
+    let mut mask = 0u64;
+    for i in 0..texts.len() {
+        mask = with_text(mask, side, texts.characters(i), line, place)?;
+    }
+    Some(mask)
+}
+
+/// Adds bit n where the text of this number, if there is one, has n characters and comes after this place.
+#[inline(always)]
+fn with_number(mask: u64, texts: &Texts, i: usize, line: &[u8], place: usize) -> Option<u64>
+    requires { place ≤ length line.now }
+    ensures { IfSome result (λ new. (n : ℕ) → has_bit new n
+        ≡ (has_bit mask n || (nat_lt i (length (texts_of texts.now))
+        && begins_with_length n (drop place line.now) (slice_index_or (texts_of texts.now) i [])))) }
+{
+    if i >= texts.len() {
+        return Some(mask);
+    }
+    with_text(mask, Side::Front, texts.characters(i), line, place)
+}
+
+/// The lengths of the texts of a lead that come after this place. Only those are looked at that begin as the line does here.
+#[inline(always)]
+fn lead_lengths(leads: &Leads, texts: &Texts, line: &[u8], place: usize) -> Option<u64>
+    requires inside { place < length line.now }
+    requires known { AreLeads leads.now (texts_of texts.now) }
+    ensures { IfSome result (λ mask. (n : ℕ) → has_bit mask n
+        ≡ list_any (λ t. begins_with_length n (drop place line.now) t) (texts_of texts.now)) }
+{
+    if !leads.all {
+        return text_lengths(Side::Front, texts, line, place);
+    }
+    let mut mask = 0u64;
+    let mut left = leads.firsts[line[place] as usize];
+    while left != 0 {
+        let lowest = left.trailing_zeros() as usize;
+        mask = with_number(mask, texts, lowest, line, place)?;
+        left &= left - 1;
+    }
+    Some(mask)
+}
+
+/// The lengths of the texts of this side that come after this place of the way.
+#[inline(always)]
+fn side_lengths(rules: &Rules, leads: &Leads, side: Side, line: &[u8], place: usize) -> Option<u64>
+    requires inside { place < length line.now }
+    requires known { AreLeads leads.now (rules_of rules.now).lead }
+    ensures { IfSome result (λ mask. (n : ℕ) → has_bit mask n
+        ≡ list_any (λ t. begins_with_length n (drop place (walked side line.now)) (walked side t))
+        (side_texts (rules_of rules.now) side)) }
+{
+    match side {
+        Side::Front => lead_lengths(leads, rules.texts(RuleKind::Lead), line, place),
+        Side::End => text_lengths(Side::End, rules.texts(RuleKind::Tail), line, place),
+    }
+}
+
+/// Whether white space is at this place of the way.
+#[inline(always)]
+fn is_space_at(side: Side, line: &[u8], place: usize) -> bool
+    ensures { result ≡ is_whitespace (slice_index (walked side line.now) place) }
+{
+    if place >= line.len() {
+        return false;
+    }
+    (byte_at(line, side, place) as char).is_whitespace()
+}
+
+/// Adds bit n where this text and a white space character, n characters in all, come after this place of the way. Nothing
+/// is said where the text is very long.
+#[inline(always)]
+fn with_spaced(mask: u64, side: Side, text: &[char], line: &[u8], place: usize) -> Option<u64>
+    requires { place ≤ length line.now }
+    ensures { IfSome result (λ new. (n : ℕ) → has_bit new n
+        ≡ (has_bit mask n || begins_with_spaced n (drop place (walked side line.now)) (walked side text.now))) }
+{
+    if !stands(side, text, line, place) {
+        return Some(mask);
+    }
+    if text.len() > LONGEST {
+        return None;
+    }
+    if !is_space_at(side, line, place + text.len()) {
+        return Some(mask);
+    }
+    Some(mask | 1 << (text.len() + 1))
+}
+
+/// The lengths of the texts that come after this place of the way with one white space character after them.
+fn spaced_lengths(side: Side, texts: &Texts, line: &[u8], place: usize) -> Option<u64>
+    requires { place ≤ length line.now }
+    ensures { IfSome result (λ mask. (n : ℕ) → has_bit mask n
+        ≡ list_any (λ t. begins_with_spaced n (drop place (walked side line.now)) (walked side t)) (texts_of texts.now)) }
+{
+    let mut mask = 0u64;
+    for i in 0..texts.len() {
+        mask = with_spaced(mask, side, texts.characters(i), line, place)?;
+    }
+    Some(mask)
+}
+
+/// Whether a text comes after this place on the way from a line's end, and its first character once more.
+fn goes_on(text: &[char], line: &[u8], place: usize) -> bool
+    requires { place ≤ length line.now }
+    ensures { result ≡ false → goes_on (drop place (walked End line.now)) text.now ≡ false }
+{
+    if text.is_empty() {
+        return false;
+    }
+    if !stands(Side::End, text, line, place) {
+        return false;
+    }
+    if text.len() >= line.len() - place {
+        return false;
+    }
+    byte_at(line, Side::End, place + text.len()) as char == text[0]
+}
+
+/// Whether one of these texts does.
+fn any_goes_on(texts: &Texts, line: &[u8], place: usize) -> bool
+    requires { place ≤ length line.now }
+    ensures { result ≡ false → list_any (goes_on (drop place (walked End line.now))) (texts_of texts.now) ≡ false }
+{
+    for i in 0..texts.len() {
+        if goes_on(texts.characters(i), line, place) {
+            return true;
+        }
+    }
+    false
+}
+
+/// The lengths of the texts that repeat their first character and are here once. Nothing is said where one repeats it.
+fn repeated_lengths(rules: &Rules, side: Side, line: &[u8], place: usize) -> Option<u64>
+    requires { place ≤ length line.now }
+    ensures mask { IfSome result (λ mask. (n : ℕ) → has_bit mask n
+        ≡ list_any (λ t. begins_with_length n (drop place (walked side line.now)) (reverse t))
+        (side_repeated (rules_of rules.now) side)) }
+    ensures once { IfSome result (λ _. list_any (goes_on (drop place (walked side line.now)))
+        (side_repeated (rules_of rules.now) side) ≡ false) }
+{
+    match side {
+        Side::Front => Some(0),
+        Side::End => {
+            let texts = rules.texts(RuleKind::TailRepeat);
+            if any_goes_on(texts, line, place) {
+                return None;
+            }
+            Some(text_lengths(Side::End, texts, line, place)?)
+        }
+    }
+}
+
+/// How many of one same byte are at this place of the way and right after it.
+#[inline(always)]
+fn streak_length(side: Side, line: &[u8], place: usize) -> usize
+    requires { place < length line.now }
+    ensures within { place + result ≤ length line.now }
+    ensures same { (i : ℕ) → i < result
+        → slice_index (walked side line.now) (place + i) ≡ slice_index (walked side line.now) place }
+    ensures stop { place + result < length line.now
+        → slice_index (walked side line.now) (place + result) ≢ slice_index (walked side line.now) place }
+{
+    let byte = byte_at(line, side, place);
+    let mut count = 1;
+    while count < line.len() - place && byte_at(line, side, place + count) == byte {
+        count += 1;
+    }
+    count
+}
+
+/// The lengths of the separators that come after this place of the way. Nothing is said where one is very long.
+#[inline(always)]
+fn separator_lengths(rules: &Rules, side: Side, line: &[u8], place: usize) -> Option<u64>
+    requires { place < length line.now }
+    ensures { IfSome result (λ mask. (n : ℕ) → has_bit mask n
+        ≡ begins_with_separator (rules_of rules.now).separators n (drop place (walked side line.now))) }
+{
+    if !rules.separators() {
+        return Some(0);
+    }
+    if !is_mark(byte_at(line, side, place) as char) {
+        return Some(0);
+    }
+    let streak = streak_length(side, line, place);
+    if streak < SHORTEST_SEPARATOR {
+        return Some(0);
+    }
+    if streak > LONGEST_SEPARATOR {
+        return None;
+    }
+    Some((1 << (streak + 1)) - (1 << SHORTEST_SEPARATOR))
+}
+
+/// The lengths of the pieces that come after this place of the way. Nothing is said where that takes more than a look.
+fn piece_lengths(rules: &Rules, leads: &Leads, side: Side, line: &[u8], place: usize) -> Option<u64>
+    requires inside { place < length line.now }
+    requires known { AreLeads leads.now (rules_of rules.now).lead }
+    ensures { IfSome result (λ mask. AreLengths (rules_of rules.now) side (drop place (walked side line.now)) mask) }
+{
+    let c = byte_at(line, side, place) as char;
+    let space = space_length(c);
+    let separators = separator_lengths(rules, side, line, place)?;
+    if !quick_table(rules, side, c) {
+        return Some(space | separators);
+    }
+    let texts = side_lengths(rules, leads, side, line, place)?;
+    let spaced = spaced_lengths(side, side_spaced(rules, side), line, place)?;
+    let repeated = repeated_lengths(rules, side, line, place)?;
+    Some(((space | separators) | texts) | (spaced | repeated))
+}
+
+/// The place where a sequence ends, if one does here by the lowest bit, or else the one before.
+#[inline(always)]
+fn latest(ends: u64, at: usize, before: usize) -> usize
+    ensures { result ≡ (if has_bit ends 0 then at else before) }
+{
+    if ends % 2 == 1 { at } else { before }
+}
+
+/// Where sequences end from the next place on, bit by bit, given where they end from this place of the way on.
+#[inline(always)]
+fn next_ends(
+    rules: &Rules,
+    leads: &Leads,
+    side: Side,
+    line: &[u8],
+    at: usize,
+    ends: u64,
+) -> Option<u64>
+    requires inside { at < length line.now }
+    requires known { AreLeads leads.now (rules_of rules.now).lead }
+    ensures { IfSome result (λ next. (d : ℕ) → has_bit next d
+        ≡ (has_bit ends (suc d) || (has_bit ends 0
+        && (nat_le (suc d) (length (drop at (walked side line.now)))
+        && is_walked_piece (rules_of rules.now) side (take (suc d) (drop at (walked side line.now))))))) }
+{
+    if ends % 2 == 0 {
+        return Some(ends / 2);
+    }
+    let lengths = piece_lengths(rules, leads, side, line, at)?;
+    Some((ends | lengths) / 2)
+}
+
+/// How long the longest sequence of pieces is at this side of a line. Nothing is said where that takes more than looks at the places
+/// where sequences end.
+pub(crate) fn sequence_by_places(
+    rules: &Rules,
+    leads: &Leads,
+    side: Side,
+    line: &[u8],
+) -> Option<usize>
+    requires { AreLeads leads.now (rules_of rules.now).lead }
+    ensures sequence { IfSome result (λ n. n
+        ≡ longest_front (is_sequence (is_walked_piece (rules_of rules.now) side))
+        (walked side line.now)) }
+    ensures within { IfSome result (λ n. n ≤ length line.now) }
+{
+    let mut longest = 0;
+    let mut ends = 1u64;
+    for at in 0..line.len() {
+        if ends == 0 {
+            return Some(longest);
+        }
+        longest = latest(ends, at, longest);
+        ends = next_ends(rules, leads, side, line, at, ends)?;
+    }
+    Some(latest(ends, line.len(), longest))
+}
