@@ -13,19 +13,19 @@ abbrev pub line_of_stop : List ℕ → List ℕ
 line_of_stop why = codes "licscan: " ++ (why ++ codes "\n")
 
 -- a line was written about this file if it is refused, and else nothing
-abbrev pub IsAnswerTold : List ℕ → Result Bool RunFault → Option (List ℕ) → Option (List ℕ) → ℕ → ℕ → Type 0
-IsAnswerTold name (Ok some) old new failed_old failed_new = (new ≡ old) × (failed_new ≡ failed_old)
-IsAnswerTold name (Err fault) old new failed_old failed_new =
+abbrev pub IsAnswerReported : List ℕ → Result Bool RunFault → Option (List ℕ) → Option (List ℕ) → ℕ → ℕ → Type 0
+IsAnswerReported name (Ok some) old new failed_old failed_new = (new ≡ old) × (failed_new ≡ failed_old)
+IsAnswerReported name (Err fault) old new failed_old failed_new =
     (why : List ℕ) × IsReported old new failed_old failed_new (line_of_file name why)
 
 -- A line was written about each of these files, one after another.
-pub data AreTold (old : Option (List ℕ)) (failed_old : ℕ) : List (List ℕ) → Option (List ℕ) → ℕ → Type 0 where
-  nothing : AreTold old failed_old [] old failed_old
+pub data AreReported (old : Option (List ℕ)) (failed_old : ℕ) : List (List ℕ) → Option (List ℕ) → ℕ → Type 0 where
+  nothing : AreReported old failed_old [] old failed_old
   one_more : {names : List (List ℕ)} {mid new : Option (List ℕ)} {failed_mid failed_new : ℕ} (name why : List ℕ)
-      → AreTold old failed_old names mid failed_mid → IsReported mid new failed_mid failed_new (line_of_file name why)
-      → AreTold old failed_old (names ++ name ∷ []) new failed_new
+      → AreReported old failed_old names mid failed_mid → IsReported mid new failed_mid failed_new (line_of_file name why)
+      → AreReported old failed_old (names ++ name ∷ []) new failed_new
 
 -- the last line that was written says why the program ends
-abbrev pub IsStopTold : Option (List ℕ) → ℕ → Type 0
-IsStopTold new failed_new = (mid : Option (List ℕ)) × (failed_mid : ℕ) × (why : List ℕ)
+abbrev pub IsStopReported : Option (List ℕ) → ℕ → Type 0
+IsStopReported new failed_new = (mid : Option (List ℕ)) × (failed_mid : ℕ) × (why : List ℕ)
     × IsReported mid new failed_mid failed_new (line_of_stop why)
