@@ -5,7 +5,7 @@ ghost use Rattle.std.specs.Prelude.{◌≡◌, ◌≤◌, length};
 use crate::lent::{CHOICE, OF, OPTIONAL, TWO, Templates, lend};
 use crate::refused::{Refused, retried};
 use lic_auto::{Back, Run};
-use lic_cases::{Bits, and_into, any_from, is_zero, or_into, shift_up_one};
+use lic_rows::{Bits, and_into, any_from, is_zero, or_into, shift_up_one};
 use lic_ere::Ere;
 use lic_find::Finder;
 use lic_kind::{Kind, Rules, kind_of};
