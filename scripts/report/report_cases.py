@@ -53,10 +53,13 @@ NOTICES = [
     ("# Copyright: 2012 Xa Y\n# Copyright: 2012 Xa Y", ["2012 Xa Y"]), ("\u00a9 1999 - 2001, Firma", ["1999-2001 Firma"]), ("// copyright law of 1976", []),
     ('  puts("Copyright (C) 2005 Erik Sornes.\\n");\n  print("(c) 2006, Hil Liao")', ["2005 Erik Sornes", "2006 Hil Liao"]),
     ("Copyright (c) 1997--2022 M", []), ("Copyright (c) 1997--2022 Mn", ["1997-2022 Mn"]),
+    ("    SPDX-FileCopyrightText: 2001, 2011 A. Author <a@b.c>", ["2001, 2011 A. Author <a@b.c>"]), ("# SPDX-FileCopyrightText: A. Author", ["A. Author"]),
+    ("/* SPDX-FileCopyrightText: Copyright (C) 2019-2024, A. Author */", ["2019-2024 A. Author"]), ("<!-- SPDX-SnippetCopyrightText: © 2020 B -->", []),
+    ("<!-- SPDX-SnippetCopyrightText: © 2020 Bo -->", ["2020 Bo"]), ("SPDX-FileCopyrightText: 2020", []),
 ]
 # notices of several files, and those of their holders
 MERGED = [
-    (["2001 A", "1999-2001 B", "2003-04 A", "2002 A", "1999, 2002 B"], ["2001-2004 A", "1999-2002 B"]), (["2001 A", "2004 A"], ["2001, 2004 A"]),
+    (["2001 A", "1999-2001 B", "2003-04 A", "2002 A", "1999, 2002 B"], ["2001-2004 A", "1999-2002 B"]), (["2001 A", "2004 A"], ["2001, 2004 A"]), (["A", "2004 A", "B"], ["2004 A", "B"]),
     (["20010203 A", "2001 A", "2001-2-3 A"], ["20010203 A", "2001 A", "2001-2-3 A"]), ([], []),
 ]
 # the templates that are found in a file, and its answer

@@ -28,7 +28,7 @@ WORD = "[a-z0-9]{1,60}"
 # the first word of an expression, if it ends with these letters or not
 REF = "[a-z0-9]{0,60}ref"
 NO_REF = "([a-z0-9]{0,60}([a-eg-z0-9]|[a-df-z0-9]f|[a-qs-z0-9]ef)|e?f)"
-REST = rf"([-_]{{1,3}}{WORD}|\.[0-9][a-z0-9]{{0,60}}){{0,12}}"
+REST = rf"([-_]{{1,3}}{WORD}|\.[0-9][a-z0-9]{{0,60}}){{0,60}}"
 # an operand that is none of one's own, and expressions that begin with one: such a one alone or last, and one of one's own last
 NO_OWN = rf"{OPEN}{NO_REF}{REST}\+?{CLOSE}"
 NO_OWN_LAST = f"{NO_OWN}({MIDDLE} {OPERATOR} {NO_OWN})?"
