@@ -13,6 +13,7 @@ rare: a text of less than seven letters is looked for at each byte of every file
   the next line begins with them (`.text`), and tokens do not tell which. Two dots begin a comment in reStructuredText.
 - cut-MIT ..: a tag of one identifier, and a mark or an operator after it; cut-MIT-c ..: parentheses and an operator. (Three parentheses before
   the identifier are a separator, which is no token.)
+- MIT-identifier-b, cut-MIT-b ..: a tag of one identifier in parentheses, and the same with an operator after it.
 - LicenseRef-identifier, -b, -c ..: one, two, three .. words after `LicenseRef-`; DocumentRef-identifier ..: the same of another document.
 - cut-LicenseRef, cut-DocumentRef: more words than those have, or a mark or an operator after them.
 - unknown-identifier: a tag alone, where it has none of these.
@@ -110,6 +111,9 @@ def identifiers():
         yield f"cut-{identifier}", TAG + identifier + more(identifier, known)
         yield f"{identifier}-identifier-dot", TAG + identifier + dot(identifier, known)
         yield f"cut-{identifier}-c", f"{TAG}{identifier}) {variable('next', 'OR', PAST_PARENTHESES)}"
+    for identifier in [it for it in LAST if it in known]:
+        yield f"{identifier}-identifier-b", f"{TAG}({identifier})"
+        yield f"cut-{identifier}-b", f"{TAG}({identifier}) {variable('next', 'OR', OPERATOR)}"
     for kind, beginning in (("LicenseRef", "LicenseRef-"), ("DocumentRef", f"DocumentRef-{variable('document', 'Other', OWN)}:LicenseRef-")):
         for count in range(1, LONGEST_IDENTIFIER + 1):
             words = WORD + (f"({JOINED}{WORD}){{{count - 1}}}" if count > 1 else "")

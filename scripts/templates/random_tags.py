@@ -80,7 +80,7 @@ class Match(lines.Match):
     @property
     def whole(self):
         """What the template says of a tag, without a name of Debian made to one of SPDX."""
-        name = re.fullmatch("(?!LicenseRef|DocumentRef|unknown)(.*)-identifier(-dot)?", self.id)
+        name = re.fullmatch("(?!LicenseRef|DocumentRef|unknown)(.*)-identifier(-b|-dot)?", self.id)
         return name[1] if name and not self.is_joined else self.licence
 
 
