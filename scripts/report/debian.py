@@ -107,16 +107,6 @@ def text_of(match):
     return "\n".join(re.sub(r"^\s*(?://+|#+|\*+(?!/)|;+|--|dnl\b|%+)?\s?", "", line) for line in text.split("\n"))
 
 
-def kept_texts(folder="LICENSES"):
-    """The texts that a repository keeps by their identifiers, as REUSE has it, by Debian's names."""
-    texts = {}
-    for file in sorted(os.listdir(folder)) if os.path.isdir(folder) else ():
-        if file.endswith(".txt"):
-            with open(os.path.join(folder, file), encoding="utf-8", errors="replace") as text:
-                texts[name_of(file.removesuffix(".txt"))] = text.read().strip("\n")
-    return texts
-
-
 def page(found, name):
     """The whole file, of the matches of each file."""
     answers = {file: licence_of(licences_of(it)) or "FIXME" for file, it in found.items() if any(one.licence != "" for one in it)}
@@ -131,7 +121,7 @@ def page(found, name):
         holders = notices.merged(itertools.chain.from_iterable(notices.read(file) for file in sorted(answers) if answers[file] == answer and file in found))
         written.append("Files: " + "\n ".join(patterns) + "\nCopyright: " + "\n ".join(holders or ["FIXME"]) + f"\nLicense: {answer}")
     names = sorted({it for answer in answers.values() for it in re.split(r",? (?:and|or) ", answer)})
-    kept = kept_texts()
+    kept = {name_of(it): text for it, text in lines.kept_texts().items()}
     for it in names:
         written.append(paragraph_of(it, text_of(texts[it]) if it in texts else kept.get(it, "")))
     return "\n\n".join(written) + "\n"

@@ -1,4 +1,5 @@
 """Reads the lines that `licscan scan` writes: matches with their variables, and the licences that they name."""
+import os
 import re
 import signal
 import sys
@@ -106,6 +107,16 @@ def matches(lines):
             last.spans.append((int(fields[2]), int(fields[3])))
     if last:
         yield last
+
+
+def kept_texts(folder="LICENSES"):
+    """The texts that a repository keeps by their identifiers, as REUSE has it."""
+    texts = {}
+    for file in sorted(os.listdir(folder)) if os.path.isdir(folder) else ():
+        if file.endswith(".txt"):
+            with open(os.path.join(folder, file), encoding="utf-8", errors="replace") as text:
+                texts[file.removesuffix(".txt")] = text.read().strip("\n")
+    return texts
 
 
 def answer(found):
