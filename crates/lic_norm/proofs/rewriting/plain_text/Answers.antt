@@ -15,9 +15,3 @@ returns-then-leaves_plain-clause-no_sign c =
 
 pub returns-then-leaves_plain-clause-left : goal.returns-then-leaves_plain-clause-left
 returns-then-leaves_plain-clause-left c = c.leaves_plain.ensures.left c.if-leaves_plain.true
-
-pub returns-clause-no_sign : goal.returns-clause-no_sign
-returns-clause-no_sign c = sym c.is_sign.ensures ∙ c.if-is_sign.false
-
-pub returns-clause-left : goal.returns-clause-left
-returns-clause-left c = c.leaves.ensures c.if-not-leaves.false
