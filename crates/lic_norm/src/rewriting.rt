@@ -1,30 +1,26 @@
 //! From first tokens to the tokens of the rewriting, as they are kept.
-ghost use Rattle.std.specs.Prelude.{◌≡◌, ◌++◌, ◌∷◌, ◌<◌, ◌≤◌, ◌+◌, ◌^◌, [], true, false, List, length, drop, map, min, slice_index_or, take};
-ghost use Rattle.std.specs.Prelude.{IfOk, IfSome, IsAscii, OnOk};
+ghost use Rattle.std.specs.Prelude.{◌≡◌, ◌++◌, ◌∷◌, ◌<◌, ◌≤◌, ◌+◌, [], true, List, length, drop, map, min};
+ghost use Rattle.std.specs.Prelude.{IfOk, OnOk};
 ghost use Rattle.lic_kind.specs.LineRules.{rules_of};
 ghost use Rattle.lic_lines.specs.Tokens.{Token, single_signs, text_tokens_after, token_in, tokens_in};
 ghost use Rattle.lic_phrases.specs.Rewriting.{rewritten};
-ghost use Rattle.lic_phrases.specs.Spelling.{spelled};
-ghost use Rattle.lic_phrases.specs.Settling.{IsLeft, nothing_kept};
+ghost use Rattle.lic_phrases.specs.Settling.{nothing_kept};
 ghost use Rattle.lic_phrases.specs.TokenTexts.{HaveTokenTexts, IsTokenText};
-ghost use Rattle.lic_norm.specs.Batches.{AreInBatch};
-ghost use Rattle.lic_norm.specs.Places.{texts_of};
 ghost use Rattle.lic_norm.specs.Reading.{HasTaken, HasTakenSome, HasTakenUpTo, phrases_of};
 ghost use Rattle.lic_norm.specs.Spans.{HaveTexts};
-ghost use Rattle.lic_norm.specs.Stretches.{begins_sign};
 ghost use Rattle.lic_norm.specs.Tokens.{reported};
 
 pub(crate) mod batch;
 pub(crate) mod stretch;
 pub(crate) mod token_list;
 
-use crate::rewriting::batch::{Batch, COPIED, Spelled, TOKENS, is_word_at, put};
+use crate::rewriting::batch::{Batch, Spelled, plain_text, spell};
 use crate::rewriting::stretch::Stretch;
-use crate::rewriting::token_list::{Entry, TokenList};
+use crate::rewriting::token_list::TokenList;
 use lic_lines::{
     Buffers, FirstToken, FrontPart, Rules, SmallString, TextStart, front_part, start_of_text,
 };
-use lic_phrases::{FinalToken, Phrases, Rewriter, ends_in_word};
+use lic_phrases::{FinalToken, Phrases, Rewriter};
 use lic_trim::SourceChar;
 use std::alloc::{AllocError, Global};
 
@@ -44,39 +40,6 @@ pub struct Rewriting<'w> {
     tokens: TokenList,
     /// Room for the tokens that are settled together.
     settled: Vec<FinalToken>,
-}
-
-/// The text of the token number `i` of lines of ASCII, if it is plain: no copyright sign begins there, and where the rewriter keeps
-/// none back, it leaves the token as it is. Mostly the first letter and the length say so.
-#[inline(always)]
-fn plain_text<'a>(phrases: &Phrases, stretch: &Stretch<'a>, i: usize) -> Option<&'a str>
-    requires { i < length stretch.now }
-    ensures text { IfSome result (λ text. (d : _) → text.now ≡ (slice_index_or stretch.now i d).text) }
-    ensures ascii { IfSome result (λ text. IsAscii text.now) }
-    ensures no_sign { IfSome result (λ text. begins_sign (drop i stretch.now) ≡ false) }
-    ensures left { IfSome result (λ text. IsLeft phrases.now.phrases text.now) }
-{
-    let letters = stretch.letters_of(i);
-    if Rewriter::leaves_plain(phrases, letters) {
-        return Some(letters);
-    }
-    plain_after_look(phrases, stretch, i)
-}
-
-/// The same by the text.
-#[inline(never)]
-fn plain_after_look<'a>(phrases: &Phrases, stretch: &Stretch<'a>, i: usize) -> Option<&'a str>
-    requires { i < length stretch.now }
-    ensures text { IfSome result (λ text. (d : _) → text.now ≡ (slice_index_or stretch.now i d).text) }
-    ensures ascii { IfSome result (λ text. IsAscii text.now) }
-    ensures no_sign { IfSome result (λ text. begins_sign (drop i stretch.now) ≡ false) }
-    ensures left { IfSome result (λ text. IsLeft phrases.now.phrases text.now) }
-{
-    let text = stretch.text(i);
-    if stretch.is_sign(i, text) || !Rewriter::leaves(phrases, text) {
-        return None;
-    }
-    Some(text)
 }
 
 impl<'w> Rewriting<'w> {
@@ -291,134 +254,10 @@ impl<'w> Rewriting<'w> {
         ensures phrases { self.new.phrases.now ≡ self.old.phrases.now }
         ensures settled { self.new.settled.items ≡ self.old.settled.items }
     {
-        let Spelled { next, place, .. } = self.spell(stretch, i, batch);
+        let Spelled { next, place, .. } = spell(self, stretch, i, batch);
         self.tokens
             .add(&batch.bytes[..place], &batch.entries[..next - i])?;
         Ok(next)
-    }
-
-    /// Spells tokens of lines of ASCII together, from the number `i` on, as long as each is plain and short.
-    #[inline(never)]
-    fn spell(&self, stretch: &Stretch<'_>, i: usize, batch: &mut Batch) -> Spelled
-        requires within { i ≤ length stretch.now }
-        requires none { self.now.rewriter ≡ nothing_kept }
-        requires texts { HaveTexts stretch.now }
-        ensures within { result.next ≤ length stretch.now }
-        ensures few { result.next ≤ i + TOKENS }
-        ensures held { AreInBatch stretch.now i self.now batch.new result }
-    {
-        let spelled = self.tokens.spelled();
-        let before = spelled.len();
-        let last = i + (stretch.len() - i).min(TOKENS);
-        let mut state = Spelled {
-            next: i,
-            place: 0,
-            after_word: ends_in_word(spelled),
-        };
-        while state.next < last {
-            state = self.spell_plain(stretch, i, last, before, state, batch);
-            if state.next >= last {
-                return state;
-            }
-            let Some(text) = plain_after_look(self.phrases, stretch, state.next) else {
-                return state;
-            };
-            let letters = stretch.letters_from(state.next);
-            if text.len() > COPIED || letters.len() < COPIED {
-                return state;
-            }
-            state = self.put_token(stretch, i, before, text, letters, state, batch);
-        }
-        state
-    }
-
-    /// Spells more tokens, before the number `last`, as long as the table says of each that it is plain.
-    #[inline(always)]
-    fn spell_plain(
-        &self,
-        stretch: &Stretch<'_>,
-        i: usize,
-        last: usize,
-        before: usize,
-        from: Spelled,
-        batch: &mut Batch,
-    ) -> Spelled
-        requires order { from.next ≤ last }
-        requires within { last ≤ length stretch.now }
-        requires few { last ≤ i + TOKENS }
-        requires before { before ≡ length (spelled (texts_of self.now.tokens)) }
-        requires fits { before < 2 ^ 63 }
-        requires none { self.now.rewriter ≡ nothing_kept }
-        requires texts { HaveTexts stretch.now }
-        requires held { AreInBatch stretch.now i self.now batch.old from }
-        ensures grown { from.next ≤ result.next }
-        ensures within { result.next ≤ last }
-        ensures held { AreInBatch stretch.now i self.now batch.new result }
-    {
-        let mut state = from;
-        while state.next < last {
-            let text = stretch.letters_of(state.next);
-            let letters = stretch.letters_from(state.next);
-            if text.len() > COPIED || letters.len() < COPIED {
-                return state;
-            }
-            if !Rewriter::leaves_plain(self.phrases, text) {
-                return state;
-            }
-            state = self.put_token(stretch, i, before, text, letters, state, batch);
-        }
-        state
-    }
-
-    /// Spells the next token, which has this text, is plain and short.
-    #[inline(always)]
-    fn put_token(
-        &self,
-        stretch: &Stretch<'_>,
-        i: usize,
-        before: usize,
-        text: &str,
-        letters: &str,
-        state: Spelled,
-        batch: &mut Batch,
-    ) -> Spelled
-        requires within { state.next < length stretch.now }
-        requires few { state.next < i + TOKENS }
-        requires counted { state.next + 1 < 2 ^ 64 }
-        requires before { before ≡ length (spelled (texts_of self.now.tokens)) }
-        requires fits { before < 2 ^ 63 }
-        requires none { self.now.rewriter ≡ nothing_kept }
-        requires texts { HaveTexts stretch.now }
-        requires held { AreInBatch stretch.now i self.now batch.old state }
-        requires text { (d : _) → text.now ≡ (slice_index_or stretch.now state.next d).text }
-        requires short { length text.now ≤ COPIED }
-        requires front { text.now ≡ take (length text.now) letters.now }
-        requires wide { COPIED ≤ length letters.now }
-        requires ascii { IsAscii text.now }
-        requires no_sign { begins_sign (drop state.next stretch.now) ≡ false }
-        requires left { IsLeft self.now.phrases.now.phrases text.now }
-        ensures next { result.next ≡ state.next + 1 }
-        ensures held { AreInBatch stretch.now i self.now batch.new result }
-    {
-        let next = state.next;
-        let blank = state.after_word & is_word_at(text, 0);
-        let place = put(
-            &mut batch.bytes,
-            state.place,
-            blank,
-            letters.as_bytes(),
-            text.len(),
-        );
-        batch.entries[next - i] = Entry {
-            text_end: before + place,
-            start: stretch.start(next),
-            end: stretch.end(next),
-        };
-        Spelled {
-            next: next + 1,
-            place,
-            after_word: is_word_at(text, text.len() - 1),
-        }
     }
 
     /// Takes the token number `i` of lines of ASCII, if there is one, or the copyright sign that begins there, through the rewriter, and

@@ -1,6 +1,6 @@
 use Rattle.std.proofs.Common.{arith, sym, ap, ◌∙◌, take, length}
 use Rattle.lic_norm.proofs.StretchTokens.{no_sign_if_plain, no_token, plain_letters}
-use Rattle.lic_norm.proofs.rewriting.Rewriting.spell_plain.Goals as goal
+use Rattle.lic_norm.proofs.rewriting.batch.spell_plain.Goals as goal
 
 pub put_token-state-requires-clause-no_sign : goal.put_token-state-requires-clause-no_sign
 put_token-state-requires-clause-no_sign c =

@@ -1,7 +1,7 @@
 -- A plain token, by its first letter and its length or by its text.
 use Rattle.std.proofs.Common.{◌∙◌, sym}
 use Rattle.lic_norm.proofs.StretchTokens.{no_sign_if_plain, no_token, plain_letters}
-use Rattle.lic_norm.proofs.rewriting.plain_text.Goals as goal
+use Rattle.lic_norm.proofs.rewriting.batch.plain_text.Goals as goal
 
 pub returns-then-leaves_plain-clause-text : goal.returns-then-leaves_plain-clause-text
 returns-then-leaves_plain-clause-text c = λ d.

@@ -4,7 +4,7 @@ use Rattle.lic_phrases.specs.Spelling.{ends_in_word}
 use Rattle.lic_norm.specs.Batches.{HasSpelledUpTo}
 use Rattle.lic_norm.proofs.BatchLemmas.{none_spelled_yet}
 use Rattle.lic_norm.proofs.StretchTokens.{no_token}
-use Rattle.lic_norm.proofs.rewriting.Rewriting.spell.Goals as goal
+use Rattle.lic_norm.proofs.rewriting.batch.spell.Goals as goal
 
 pub loop-state-init : goal.loop-state-init
 loop-state-init c =
@@ -16,8 +16,8 @@ loop-state-init c =
         from = omega arith;
         short = omega arith;
         utf8 = subst IsUtf8 c.spelled-spelled.ensures c.spelled-spelled.utf8;
-        holds = subst (λ n. HasSpelledUpTo c.args.stretch.now i i c.args.self.now [] (take n c.args.batch.now.entries)) none
-            (none_spelled_yet c.args.stretch.now i c.args.self.now);
+        holds = subst (λ n. HasSpelledUpTo c.args.stretch.now i i c.args.rewriting.now [] (take n c.args.batch.now.entries)) none
+            (none_spelled_yet c.args.stretch.now i c.args.rewriting.now);
         word = c.ends_in_word.ensures ∙ ap ends_in_word (c.spelled-spelled.ensures ∙ sym (append-nil _));
       };
     }
