@@ -1,7 +1,7 @@
 -- A plain token, by its first letter and its length or by its text.
 use Rattle.std.proofs.Common.{◌∙◌, sym}
 use Rattle.lic_norm.proofs.StretchTokens.{no_sign_if_plain, no_token, plain_letters}
-use Rattle.lic_norm.proofs.rewriting.plain_text.Goals as goal
+use Rattle.lic_norm.proofs.rewriting.batch.plain_text.Goals as goal
 
 pub returns-then-leaves_plain-clause-text : goal.returns-then-leaves_plain-clause-text
 returns-then-leaves_plain-clause-text c = λ d.
@@ -15,9 +15,3 @@ returns-then-leaves_plain-clause-no_sign c =
 
 pub returns-then-leaves_plain-clause-left : goal.returns-then-leaves_plain-clause-left
 returns-then-leaves_plain-clause-left c = c.leaves_plain.ensures.left c.if-leaves_plain.true
-
-pub returns-clause-no_sign : goal.returns-clause-no_sign
-returns-clause-no_sign c = sym c.is_sign.ensures ∙ c.if-is_sign.false
-
-pub returns-clause-left : goal.returns-clause-left
-returns-clause-left c = c.leaves.ensures c.if-not-leaves.false
