@@ -1,9 +1,12 @@
 //! Whether a text of the line rules is at a place of a line of ASCII.
 ghost use Rattle.std.specs.Prelude.{◌≡◌, ◌<◌, ◌≤◌, true, false, length, drop, slice_index};
+ghost use Rattle.std.specs.List.{list_any};
+ghost use Rattle.lic_kind.specs.LineRules.{texts_of};
 ghost use Rattle.lic_trim.specs.Walks.{walked, begins_with_text};
 
 use crate::ascii_cut::byte_at;
 use crate::side::Side;
+use lic_kind::Texts;
 
 /// The character of a text at this place of the way.
 #[inline(always)]
@@ -56,4 +59,17 @@ pub(crate) fn stands(side: Side, text: &[char], line: &[u8], place: usize) -> bo
         return false;
     }
     stands_whole(side, text, line, place)
+}
+
+/// Whether the line has one of these texts from this place on.
+pub(crate) fn any_stands(side: Side, texts: &Texts, line: &[u8], place: usize) -> bool
+    requires { place ≤ length line.now }
+    ensures { result ≡ list_any (λ t. begins_with_text (drop place (walked side line.now)) (walked side t)) (texts_of texts.now) }
+{
+    for i in 0..texts.len() {
+        if stands(side, texts.characters(i), line, place) {
+            return true;
+        }
+    }
+    false
 }
