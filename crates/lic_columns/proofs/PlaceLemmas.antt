@@ -69,10 +69,6 @@ module _ (mask : ℕ) (some : 0 < mask) (fits : mask < 2 ^ 64) where
       (λ k low. flag_at-bits_of 64 mask k (omega (arith, t.0)) ∙ ap (λ n. n == 1) (t.2 k low))
       ∙ ap (λ l. (at + trailing_zeros w64 mask) ∷ places at l) (sym bits_without)
 
--- one place more is listed
-pub one_more : (listed : List ℕ) (place : ℕ) (rest : List ℕ) → (listed ++ place ∷ []) ++ rest ≡ listed ++ place ∷ rest
-one_more listed place rest = append_assoc listed (place ∷ []) rest
-
 -- ---- the places of a whole text, column by column
 
 pub places_same : (at : ℕ) (one two : List Bool) → ((k : ℕ) → flag_at one k ≡ flag_at two k) → places at one ≡ places at two
