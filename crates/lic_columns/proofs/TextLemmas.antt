@@ -52,7 +52,6 @@ IsText-blanked from to n known is = record {
     word = length-cleared from to known.word ∙ is.whole.word;
     mark = length-cleared from to known.mark ∙ is.whole.mark;
     feed = is.whole.feed;
-    high = is.whole.high;
   };
   apart = λ k.
       ap (λ t. t && flag_at (cleared from to known.mark) k) (flag_at-cleared from to known.word k)

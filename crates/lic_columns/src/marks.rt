@@ -5,7 +5,7 @@ ghost use Rattle.lic_columns.specs.Carried.{AreCarried};
 ghost use Rattle.lic_columns.specs.Masks.{EndsBefore, IsColumn, has_bit};
 ghost use Rattle.lic_columns.specs.Marks.{same_as_next, middles, is_joining, kept_by, kept_in, joined_marks};
 
-use crate::block::{SIZE, joining_places, same_places};
+use crate::block::{joining_places, same_places};
 use crate::flags::Flags;
 use crate::mask::{but_not, moved_down, moved_up};
 
@@ -30,11 +30,11 @@ impl Pairs {
         if both == 0 {
             return Pairs { same: 0, alike: 0 };
         }
-        let alike = both & same_places(letters, k * SIZE);
+        let alike = both & same_places(letters, k);
         if alike == 0 {
             return Pairs { same: 0, alike: 0 };
         }
-        let same = alike & same_places(bytes, k * SIZE);
+        let same = alike & same_places(bytes, k);
         Pairs { same, alike }
     }
 }
@@ -49,7 +49,7 @@ fn joining(places: u64, letters: &[u8], k: usize) -> u64
     if places == 0 {
         return 0;
     }
-    places & joining_places(letters, k * SIZE)
+    places & joining_places(letters, k)
 }
 
 /// The marks of a column without separators, and those of them that are joined to the one before.

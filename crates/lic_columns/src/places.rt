@@ -34,6 +34,7 @@ impl Model for Places {
 #[inline(always)]
 fn put_lowest(out: &mut [u32], i: usize, at: u32, mask: u64) -> u64
     requires inside { i < length out.old }
+    ensures long { length out.new ≡ length out.old }
     ensures out { out.new ≡ slice_set out.old i ((at + trailing_zeros w64 mask) % 2 ^ 32) }
     ensures mask { result ≡ bit_and mask (mask - 1) }
 {
@@ -102,12 +103,14 @@ impl Places {
     /// Memory ran out. The places are then as before.
     #[inline(always)]
     pub fn put(&mut self, at: u32, mask: u64) -> Result<(), AllocError>
-        requires few { length self.old < 2 ^ 32 }
-        requires fits { at + 64 ≤ 2 ^ 32 }
+        requires { at + 64 ≤ 2 ^ 32 }
         ensures { IfOk result (λ _. self.new ≡ self.old ++ places at (bits_of 64 mask)) }
     {
         if self.list.len() - self.len < MOST {
-            self.list.resize(self.len + MORE, 0)?;
+            let Some(longer) = self.len.checked_add(MORE) else {
+                return Err(AllocError);
+            };
+            self.list.resize(longer, 0)?;
         }
         self.len = put_places(&mut self.list, self.len, at, mask);
         Ok(())

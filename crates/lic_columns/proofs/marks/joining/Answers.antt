@@ -1,4 +1,4 @@
-use Rattle.std.proofs.Common.{◌≡◌, ◌+◌, ◌*◌, ◌<◌, ◌&&◌, Bool, true, false, get_or, length, refl, ap, sym, ◌∙◌, arith, rules}
+use Rattle.std.proofs.Common.{◌≡◌, ◌+◌, ◌*◌, ◌&&◌, Bool, true, false, get_or, length, refl, ap, sym, ◌∙◌, arith}
 use Rattle.lic_columns.specs.Masks.{has_bit}
 use Rattle.lic_columns.specs.Marks.{is_joining}
 use Rattle.lic_columns.proofs.BitLemmas.{has_bit_and, has_bit_zero}
@@ -9,17 +9,9 @@ and_when : (t u v : Bool) → (t ≡ true → u ≡ v) → (t && u) ≡ (t && v)
 and_when true u v h = h refl
 and_when false u v h = refl
 
-pub overflow_mul-k : goal.overflow_mul-k
-overflow_mul-k c =
-    let inside : c.args.k * 64 < length c.args.letters.now =
-    some_inside c.args.places c.args.k (length c.args.letters.now) c.ranges.places.fits (omega (arith, c.if-places-eq0.false)) c.requires in
-    search rules
-
 pub joining_places-requires : goal.joining_places-requires
 joining_places-requires c =
-    let inside : c.args.k * 64 < length c.args.letters.now =
-    some_inside c.args.places c.args.k (length c.args.letters.now) c.ranges.places.fits (omega (arith, c.if-places-eq0.false)) c.requires in
-    omega arith
+    some_inside c.args.places c.args.k (length c.args.letters.now) c.ranges.places.fits (omega (arith, c.if-places-eq0.false)) c.requires
 
 pub returns-then-places-eq0 : goal.returns-then-places-eq0
 returns-then-places-eq0 c = λ i small.

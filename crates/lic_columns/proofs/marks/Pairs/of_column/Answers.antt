@@ -1,4 +1,4 @@
-use Rattle.std.proofs.Common.{◌≡◌, ℕ, ◌+◌, ◌*◌, ◌<◌, length, bit_and, ap, sym, ◌∙◌, arith, rules}
+use Rattle.std.proofs.Common.{◌≡◌, ℕ, ◌+◌, ◌*◌, ◌<◌, length, bit_and, ap, sym, ◌∙◌, arith}
 use Rattle.std.proofs.lemmas.List.{length-map}
 use Rattle.lic_columns.specs.Bytes.{letter}
 use Rattle.lic_columns.specs.Masks.{has_bit}
@@ -6,15 +6,6 @@ use Rattle.lic_columns.proofs.BitLemmas.{has_bit_zero}
 use Rattle.lic_columns.proofs.ColumnLemmas.{pairs_inside, none_alike, same_of_alike}
 use Rattle.lic_columns.proofs.MarkLemmas.{none_same, some_same, same_at}
 use Rattle.lic_columns.proofs.marks.Pairs.of_column.Goals as goal
-
-pub overflow_mul-k : goal.overflow_mul-k
-overflow_mul-k c =
-    let marks = c.args.marks.now in
-    let some : 0 < bit_and c.column.result c.column_after.result = omega (arith, c.if-both-eq0.false) in
-    let inside : c.args.k * 64 < length marks = pairs_inside marks c.args.k c.column.result c.column_after.result c.column.type_inv some c.column.ensures in
-    let letters : length c.args.letters.now ≡ length c.args.bytes.now = ap length c.requires.letters ∙ length-map c.args.bytes.now letter in
-    let bytes : c.args.k * 64 < length c.args.bytes.now = omega (arith, c.requires.long) in
-    search rules
 
 pub same_places-requires : goal.same_places-requires
 same_places-requires c =
@@ -24,15 +15,6 @@ same_places-requires c =
     let letters : length c.args.letters.now ≡ length c.args.bytes.now = ap length c.requires.letters ∙ length-map c.args.bytes.now letter in
     let bytes : c.args.k * 64 < length c.args.bytes.now = omega (arith, c.requires.long) in
     omega arith
-
-pub overflow_mul-k-2 : goal.overflow_mul-k-2
-overflow_mul-k-2 c =
-    let marks = c.args.marks.now in
-    let some : 0 < bit_and c.column.result c.column_after.result = omega (arith, c.if-both-eq0.false) in
-    let inside : c.args.k * 64 < length marks = pairs_inside marks c.args.k c.column.result c.column_after.result c.column.type_inv some c.column.ensures in
-    let letters : length c.args.letters.now ≡ length c.args.bytes.now = ap length c.requires.letters ∙ length-map c.args.bytes.now letter in
-    let bytes : c.args.k * 64 < length c.args.bytes.now = omega (arith, c.requires.long) in
-    search rules
 
 pub same_places-requires-2 : goal.same_places-requires-2
 same_places-requires-2 c =
