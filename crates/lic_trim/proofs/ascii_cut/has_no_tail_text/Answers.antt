@@ -1,4 +1,4 @@
-use Rattle.std.proofs.Common.{◌≡◌, ◌∙◌, ℕ, List, drop, sym, ap}
+use Rattle.std.proofs.Common.{◌∙◌, ℕ, List, drop, sym, ap}
 use Rattle.std.specs.List.{list_any}
 use Rattle.std.proofs.lemmas.Bool.{not-true}
 use Rattle.lic_kind.specs.LineRules.{rules_of}

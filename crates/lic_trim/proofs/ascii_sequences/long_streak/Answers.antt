@@ -1,6 +1,5 @@
-use Rattle.std.proofs.Common.{◌≡◌, ◌+◌, ℕ, sym, ap, ◌∙◌, arith}
+use Rattle.std.proofs.Common.{sym, ap, ◌∙◌, arith}
 use Rattle.lic_kind.specs.Kinds.{kind_of, is_mark_kind}
-use Rattle.lic_trim.specs.Walks.{walked}
 use Rattle.lic_trim.proofs.Walking.{length-walked}
 use Rattle.lic_trim.proofs.ascii_sequences.long_streak.Goals as goal
 
