@@ -1,3 +1,4 @@
 mod Counts
 mod Files
 mod GoneOver
+mod SetFaults

@@ -39,7 +39,8 @@ fn read_rules(alloc: Global, bytes: &[u8]) -> Result<Rules, FileFault<RulesFault
 pub fn load_rules<Rt: Files>(rt: &Rt, alloc: Global, path: Option<&str>) -> Result<Rules, LoadFault>
     ensures profile { path.entry ≡ None → IfOk result (λ rules. rules_of rules ≡ profile) }
     ensures file { IsSome path.entry → IfOk result (λ rules. AreRulesOfFile (rules_of rules)) }
-    ensures refused { IfErr result IsFaultOfRules }
+    // A file that is given is at fault, and no other thing.
+    ensures refused { IfErr result (λ fault. IsSome path.entry × IsFaultOfRules fault) }
 {
     let Some(path) = path else {
         return Ok(Rules::profile(alloc));

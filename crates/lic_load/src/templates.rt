@@ -13,7 +13,7 @@ ghost use Rattle.lic_markup.specs.Templates.{IsTemplate};
 ghost use Rattle.lic_load.specs.declared.templates.TemplateFault.TheVariants.{Unreadable, Memory};
 ghost use Rattle.lic_load.specs.Causes.{fault_of_read, IsTemplateFault};
 ghost use Rattle.lic_load.specs.Listings.{IsIdentifier, IsReadBy, compare, count_of_names};
-ghost use Rattle.lic_load.specs.Loading.{IsLoaded};
+ghost use Rattle.lic_load.specs.Loading.{IsLoaded, IsFaultOfTemplates};
 ghost use Rattle.lic_load.specs.Reporting.{IsRepeated, IsReported, line_of_template, line_of_unnamed};
 
 use crate::fault::{LoadFault, tell, wants_memory};
@@ -97,6 +97,7 @@ pub fn list_templates<Rt: Files + AllocGlobal + Clone + Drop>(
     folder: &str,
 ) -> Result<Listing, LoadFault>
     ensures ordered { IfOk result (λ listing. IsSorted compare listing.ids.items) }
+    ensures refused { IfErr result (λ fault. (fault ≡ LoadFault.Listing) ⊎ (fault ≡ LoadFault.Memory)) }
 {
     let mut ids = Vec::new(alloc);
     let mut unnamed = 0usize;
@@ -130,6 +131,7 @@ fn add_id(alloc: Global, ids: &mut Vec<String>, name: &str) -> Result<(), LoadFa
     ensures added { (id : List ℕ) → IsIdentifier name.now id → OnOk result
         (map string_bytes ids.new.items ≡ map string_bytes ids.old.items ++ id ∷ []) }
     ensures others { ((id : List ℕ) → ¬ (IsIdentifier name.now id)) → ids.new ≡ ids.old }
+    ensures refused { IfErr result (λ fault. fault ≡ LoadFault.Memory) }
 {
     let Some(id) = identifier_of(name) else {
         return Ok(());
@@ -267,8 +269,9 @@ pub fn load_all<Rt: Files + AllocGlobal, E: Sink>(
     // The set is of those that were read, under their identifiers; each other one is reported.
     ensures loaded { IfOk result (λ loaded. IsLoaded (rules_of rules.now) words.now listing
         (E.taken err.old) (E.taken err.new) (E.failed err.old) (E.failed err.new) loaded.set) }
-    ensures refused { IfErr result (λ fault. (fault ≡ LoadFault.Memory)
-        ⊎ ((of_set : _) × (fault ≡ LoadFault.Set of_set))) }
+    // Memory ran out, or those that were read are no set.
+    ensures refused { IfErr result (IsFaultOfTemplates (rules_of rules.now) words.now listing
+        (E.taken err.old) (E.taken err.new) (E.failed err.old) (E.failed err.new)) }
 {
     tell_unnamed(err, listing.unnamed);
     let mut is_refused = listing.unnamed > 0;

@@ -37,7 +37,8 @@ fn read_words(alloc: Global, bytes: &[u8]) -> Result<Words, FileFault<WordsFault
 pub fn load_words<Rt: Files>(rt: &Rt, alloc: Global, path: Option<&str>) -> Result<Words, LoadFault>
     ensures none { path.entry ≡ None → IfOk result (λ words. words ≡ []) }
     ensures file { IsSome path.entry → IfOk result IsListOfFile }
-    ensures refused { IfErr result IsFaultOfList }
+    // A file that is given is at fault, and no other thing.
+    ensures refused { IfErr result (λ fault. IsSome path.entry × IsFaultOfList fault) }
 {
     let Some(path) = path else {
         return Ok(Words::none(alloc));

@@ -3,7 +3,6 @@ use Rattle.std.specs.Global.{Global}
 use Rattle.std.specs.String.{string_bytes}
 use Rattle.std.proofs.lemmas.List.Elements.{All-map, All-push}
 use Rattle.std.proofs.lemmas.List.Sorted.{All-permutation}
-use Rattle.std.proofs.lemmas.Simd.{map-map}
 use Rattle.std.proofs.lemmas.Iterator.Adapters.{YieldsList-from_vec}
 use Rattle.std.proofs.lemmas.Iterator.Consumers.{YieldsList-end}
 use Rattle.lic_kind.specs.LineRules.{rules_of}
@@ -14,7 +13,8 @@ use Rattle.lic_load.specs.Loading.{AreGoneOver}
 use Rattle.lic_load.specs.Loading.AreGoneOver.{nothing}
 use Rattle.lic_load.specs.Reporting.{IsReported, line_of_template}
 use Rattle.lic_load.proofs.Counts.{length_set}
-use Rattle.lic_load.proofs.GoneOver.{read_more, left_out_more}
+use Rattle.lic_load.proofs.GoneOver.{are_read, read_more, left_out_more}
+use Rattle.lic_load.proofs.SetFaults.{fault_of_set}
 use Rattle.lic_load.proofs.templates.load_all.Goals as goal
 
 pub returns-in-Ok-build : goal.returns-in-Ok-build
@@ -23,8 +23,6 @@ returns-in-Ok-build g c =
     let all = YieldsList-end (YieldsList-from_vec {s = c.into_iter-id-iterator.result} c.args.listing.ids.items given.0 (given.1 ∙ c.args.listing.ids.ok.0))
     c.loop-id.yielded c.loop-id.id-iterator c.loop-id.yielded_by c.next.result c.next.new.self c.in-None.is c.next.ensures.steps in
     let same = length_set c.loop-id.templates.items c.in-Ok-build.set c.in-Ok-build.ensures.holds in
-    let ids : map string_bytes c.loop-id.yielded ≡ map string_bytes c.args.listing.ids.items =
-    sym (map-map string_bytes (λ id. id) c.loop-id.yielded) ∙ ap (map string_bytes) all.0 in
     record {
       left_out = (
         λ refused. let fewer : length c.loop-id.templates.items < length c.loop-id.yielded + c.args.listing.unnamed = c.loop-id.invariant.left_out.0 refused in
@@ -36,17 +34,22 @@ returns-in-Ok-build g c =
           All-permutation P (pairs_known c.loop-id.templates.items) c.in-Ok-build.set c.in-Ok-build.ensures.holds.holds
           (All-map P pair_known c.loop-id.templates.items c.loop-id.invariant.read);
       loaded = record {
-        mid = g.E.Sink.taken c.tell_unnamed.new.err;
-        failed_mid = g.E.Sink.failed c.tell_unnamed.new.err;
         read = pairs_known c.loop-id.templates.items;
-        unnamed = c.tell_unnamed.ensures;
-        gone_over =
-            subst (λ ns. AreGoneOver (rules_of c.args.rules.now) c.args.words.now (g.E.Sink.taken c.tell_unnamed.new.err) (g.E.Sink.failed c.tell_unnamed.new.err) ns
-            (pairs_known c.loop-id.templates.items) (g.E.Sink.taken c.loop-id.err) (g.E.Sink.failed c.loop-id.err)) ids c.loop-id.invariant.gone_over;
+        are_read = are_read c.args.listing c.loop-id.yielded (pairs_known c.loop-id.templates.items) all.0 c.tell_unnamed.ensures c.loop-id.invariant.gone_over;
         set_of = c.in-Ok-build.ensures.holds;
       };
       refused = tt;
     }
+
+pub returns-in-Err-build-clause-refused : goal.returns-in-Err-build-clause-refused
+returns-in-Err-build-clause-refused g c =
+    let given = c.into_iter-id-iterator.ensures.into_iter_gives in
+    let all = YieldsList-end (YieldsList-from_vec {s = c.into_iter-id-iterator.result} c.args.listing.ids.items given.0 (given.1 ∙ c.args.listing.ids.ok.0))
+    c.loop-id.yielded c.loop-id.id-iterator c.loop-id.yielded_by c.next.result c.next.new.self c.in-None.is c.next.ensures.steps in (
+      pairs_known c.loop-id.templates.items,
+      are_read c.args.listing c.loop-id.yielded (pairs_known c.loop-id.templates.items) all.0 c.tell_unnamed.ensures c.loop-id.invariant.gone_over,
+      fault_of_set c.loop-id.templates.items c.in-Err-build.fault c.build.result c.in-Err-build.is c.build.ensures.many c.build.ensures.twice,
+    )
 
 pub loop-id-init : goal.loop-id-init
 loop-id-init g c = record {

@@ -1,4 +1,5 @@
-use Rattle.std.proofs.Common.{◌≡◌, ◌⊎◌, Some, inr, subst, sym}
+use Rattle.std.proofs.Common.{◌≡◌, ◌⊎◌, Some, inr, refl, subst, sym}
+use Rattle.std.specs.Option.{IsSome}
 use Rattle.lic_phrases.specs.WordLists.{first_fault, out_of_memory}
 use Rattle.lic_load.specs.Causes.{IsFileFault}
 use Rattle.lic_load.specs.Loading.{IsFaultOfList, IsListOfFile}
@@ -13,5 +14,6 @@ returns-clause-file g c = λ some.
 pub returns-clause-refused : goal.returns-clause-refused
 returns-clause-refused g c =
     let bytes = c.as_slice.result.now in
-    turned _ c.read_words.result c.map_err.result (IsFileFault bytes (λ fault. (first_fault bytes ≡ Some fault) ⊎ (fault ≡ out_of_memory))) IsFaultOfList
-    c.map_err.ensures.cases (λ e y is p. subst IsFaultOfList (sym is) (inr (bytes, p))) c.read_words.ensures.refused
+    turned _ c.read_words.result c.map_err.result (IsFileFault bytes (λ fault. (first_fault bytes ≡ Some fault) ⊎ (fault ≡ out_of_memory)))
+    (λ fault. IsSome c.args.path × IsFaultOfList fault) c.map_err.ensures.cases
+    (λ e y is p. (subst IsSome (sym c.in-Some.is) refl, subst IsFaultOfList (sym is) (inr (bytes, p)))) c.read_words.ensures.refused
