@@ -1,5 +1,5 @@
 #!/usr/bin/env python3
-"""Tries what check.py, summary.py, debian.py and spdx.py make of licscan's lines. It runs no program."""
+"""Tries what check.py, summary.py, debian.py, spdx.py and whole.py make of licscan's lines. It runs no program."""
 import sys
 
 import check
@@ -8,6 +8,7 @@ import harness
 import lines
 import notices
 import spdx
+import whole
 
 ALLOWED = {"mit", "apache-2.0", "gpl-2.0-only", "gpl-2.0-only with linux-syscall-note"}
 # expressions, and whether they are allowed
@@ -34,6 +35,9 @@ DOTS = [
     ("expression-OR-MIT-dot", [("ISC", 28), ("text", 40)], "ISC OR MIT"), ("expression-OR-MIT-c-dot", [("ISC", 28), ("Foo", 40)], None),
     ("expression-b", [("Own", 28), (".Foo", 31)], None), ("expression-b", [("Own", 28), (".text", 32)], "Own"), ("expression-b", [("Own", 28), (":", 31)], "Own"),
 ]
+# templates, and whether a whole expression is put in their place
+PLACES = [("cut-MIT", True), ("cut-OR-MIT", True), ("unknown-identifier", True), ("MIT-identifier-dot", True), ("expression-OR-MIT-c-dot", True),
+          ("MIT-identifier", False), ("MIT-identifier-b", False), ("expression-OR-MIT", False)]
 # what a file has, the field of debian/copyright, and the licences in the file as SPDX's documents have them
 FIELDS = [
     (["MIT"], "Expat", ["MIT"]), (["GPL-2.0-or-later", "ISC"], "GPL-2+ and ISC", ["GPL-2.0-or-later", "ISC"]), (["GPL-2.0-only"], "GPL-2", ["GPL-2.0-only"]),
@@ -81,6 +85,7 @@ def main():
     cases = [(text, check.is_allowed(text, ALLOWED), answer) for text, answer in EXPRESSIONS]
     cases += [(id, lines.Match("f", id, 0, values=values).licence, licence) for id, values, licence in MATCHES]
     cases += [(id, lines.Match("f", id, 3, values=[it for it, _ in values], spans=[(at, at + len(it)) for it, at in values]).licence, licence) for id, values, licence in DOTS]
+    cases += [(id, whole.is_cut([f"f\t{id}\t0\t1\t0\t9\n"]), answer) for id, answer in PLACES]
     cases += [(names, debian.licence_of(names), field) for names, field, _ in FIELDS]
     cases += [(names, spdx.in_file(names), ids) for names, _, ids in FIELDS]
     cases += [(answers, debian.globs(answers), globs) for answers, globs in GLOBS]
