@@ -2,7 +2,7 @@
 # Puts licscan under a prefix: the program, its manual page, completions, the starter set, line rules, spellings and documents.
 # Usage: ./install.sh PREFIX [PROGRAM]   PROGRAM is the proved one, which is built first where that has not been done.
 set -euo pipefail
-if [ $# -lt 1 ] || [ $# -gt 2 ]; then
+if [ $# -lt 1 ] || [ $# -gt 2 ] || [[ $1 == -* ]]; then
     echo 'usage: ./install.sh PREFIX [PROGRAM]' >&2
     exit 2
 fi

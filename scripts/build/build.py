@@ -56,6 +56,7 @@ def build(top):
     if keeps_proofs(top):
         is_built = proving.run() and built(top, proving.all, to, lambda line: None)
     else:
+        say("this kit keeps no proofs: if it is stopped, it begins anew")
         is_built = built(top, proving.all, to, Hearing(len(proving.all)))
     if not is_built:
         say(f"the program could not be proved and built (log: crates/{PROGRAM}/out/build.log)")

@@ -18,5 +18,5 @@ FAULTS = [
     (['--all', '--after', '0:1:', 'a'], E_REFUSED + b'licscan: --after: no template \n'),
 ]
 
-CASES = [Case(f'the first fault is told: {args}', SCAN + args, templates(A=b'foo bar', E=b' '), given=b'foo bar', status=2, err=err)
+CASES = [Case(f'the first fault is reported: {args}', SCAN + args, templates(A=b'foo bar', E=b' '), given=b'foo bar', status=2, err=err)
          for args, err in FAULTS]

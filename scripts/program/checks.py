@@ -19,5 +19,5 @@ CASES = [
     Case('an empty folder has no line', CHECK, {'T': None}),
     Case('the word list serves templates and their original texts', [*CHECK, '--words', 'list'], LISTED, out=b'K\t9\tyes\n'),
     Case('without the word list', CHECK, LISTED, status=1, out=b'K\t9\tno\n'),
-    Case('a missing folder is told', CHECK, status=2, err=b'licscan: templates: cannot be listed\n'),
+    Case('a missing folder is reported', CHECK, status=2, err=b'licscan: templates: cannot be listed\n'),
 ]

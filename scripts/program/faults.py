@@ -1,4 +1,4 @@
-"""Templates that are refused, by the fault that decides and its place; and what is just taken."""
+"""Templates that are refused, by the fault that decides and its offset; and what is just taken."""
 from short import of_fault, of_weight
 
 MARKUP = [

@@ -27,7 +27,7 @@ CASES = [
     Case('an empty input has no line', ALL, ONE, status=1),
     Case('each match has a line', ALL, ONE, given=INPUT, out=b'-\tA\t0\t1\t0\t9\n-\tA\t2\t3\t10\t17\n'),
     Case('no more lines than the limit', [*ALL, '--limit', '1'], ONE, given=INPUT, out=b'-\tA\t0\t1\t0\t9\n'),
-    *(Case(f'a scan goes on after a triple: {after}, {limit}', [*ALL, '--after', after, '--limit', limit], TWO, given=INPUT, status=status, out=out)
+    *(Case(f'a scan is resumed after a triple: {after}, {limit}', [*ALL, '--after', after, '--limit', limit], TWO, given=INPUT, status=status, out=out)
       for after, limit, status, out in AFTER),
     Case('files are scanned as given', [*ALL, '--limit', '1', '--', 'good.txt', '-', 'a\tb.txt', '-', '-x'], FILES, given=b'foo bar', out=AS_GIVEN),
 ]

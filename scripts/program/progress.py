@@ -11,6 +11,6 @@ CASES = [
     Case('many files are counted in one line that is gone at the end', TOKENS, given=b'foo', out=LINE, err=b''.join(SHOWN) + CLEAR, at_terminal=True),
     Case('nothing is counted where nobody waits', TOKENS, given=b'foo', out=LINE),
     Case('few files are not counted', TOKENS[:-1], given=b'foo', out=LINE, at_terminal=True),
-    Case('the line is gone before a file is told', [*TOKENS[:-1], 'none'], given=b'foo', status=2, out=LINE,
+    Case('the line is gone before a file is reported', [*TOKENS[:-1], 'none'], given=b'foo', status=2, out=LINE,
          err=b''.join(SHOWN) + CLEAR + b'licscan: none: cannot be read\n' + CLEAR, at_terminal=True),
 ]

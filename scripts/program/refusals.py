@@ -22,16 +22,16 @@ FAULTS = (b'licscan: template P1: M3 at 2: optional not ended\n'
           b'licscan: template P4: M6 at 8: field without =\n')
 
 CASES = [
-    Case('a refused template is told and left out', ALL, LEFT_OUT, given=b'foo bar', status=2, out=b'-\tA\t0\t1\t0\t7\n', err=TOLD),
+    Case('a refused template is reported and left out', ALL, LEFT_OUT, given=b'foo bar', status=2, out=b'-\tA\t0\t1\t0\t7\n', err=TOLD),
     Case('a folder may be empty', ALL, {'T': None}, given=b'foo bar', status=1),
-    Case('a missing folder is told', ALL, given=b'foo bar', status=2, err=UNLISTED),
-    Case('a file that cannot be read is told and the rest go on', [*ALL, 'bytes.txt', 'none\t.txt', 'T', 'good.txt'], INPUTS, status=2,
+    Case('a missing folder is reported', ALL, given=b'foo bar', status=2, err=UNLISTED),
+    Case('a file that cannot be read is reported and the rest go on', [*ALL, 'bytes.txt', 'none\t.txt', 'T', 'good.txt'], INPUTS, status=2,
          out=b'bytes.txt\tA\t0\t1\t0\t7\ngood.txt\tA\t0\t1\t0\t7\n',
          err=b'licscan: none\\t.txt: cannot be read\nlicscan: T: cannot be read\n'),
     Case('more templates than a set may have end the run', ALL, templates(**{f'{k}': b'foo' for k in range(4_097)}), given=b'foo', status=2,
          err=b'licscan: templates: B2: more than 4096 templates\n'),
-    Case('a fault of markup is told with its place', SCAN, MARKUP, given=b'foo bar', status=2, out=b'-\tA\t0\t1\t0\t7\n', err=FAULTS),
-    Case('a failed read is told', SCAN, templates(A=b'foo'), stdin='/', status=2, err=b'licscan: -: cannot be read\n'),
-    Case('a failed write is told', SCAN, templates(A=b'foo'), given=b'foo', stdout='/dev/full', status=2,
+    Case('a fault of markup is reported with its offset', SCAN, MARKUP, given=b'foo bar', status=2, out=b'-\tA\t0\t1\t0\t7\n', err=FAULTS),
+    Case('a failed read is reported', SCAN, templates(A=b'foo'), stdin='/', status=2, err=b'licscan: -: cannot be read\n'),
+    Case('a failed write is reported', SCAN, templates(A=b'foo'), given=b'foo', stdout='/dev/full', status=2,
          err=b'licscan: standard output: cannot be written\n'),
 ]

@@ -2,9 +2,11 @@
 """Writes a draft of debian/copyright: licscan scan .. | debian.py [--name NAME]
 
 Each file has its texts, notices, tags and fields, or its mentions where it has nothing else; a family is left out beside a version of it. Names
-are Debian's. Years and holders are those of the files' own notices, each holder once. The most frequent answer is that of `Files: *`; a folder whose files all have
-another one is one glob, so a file without an answer goes with its folder. Licences end the page: a reference to /usr/share/common-licenses, or the text as a file has it, or FIXME.
-It is run in the folder of the files. What it writes is to be read: a file's licences may be a choice or a sum, and FIXME is written where nothing is known.
+are Debian's. Years and holders are those of the files' own notices and fields of SPDX, each holder once. The most frequent answer is that of
+`Files: *`; a folder whose files all have another one is one glob, so a file without an answer goes with its folder. Licences end the page: a
+reference to /usr/share/common-licenses, or the text as a file or the folder LICENSES has it, or FIXME. debian/copyright and quilt's .pc are left out,
+and what FILE.license has is said of FILE, too. It is run in the folder of the files. What it writes is to be read: a file's licences may be a choice
+or a sum, FIXME is written where nothing is known, and `unknown` for a tag that is cut.
 """
 import argparse
 import collections
@@ -108,17 +110,20 @@ def text_of(match):
 def page(found, name):
     """The whole file, of the matches of each file."""
     answers = {file: licence_of(licences_of(it)) or "FIXME" for file, it in found.items() if any(one.licence != "" for one in it)}
+    # what is in NAME.license is said of NAME
+    answers.update({it.removesuffix(".license"): answers[it] for it in list(answers) if it.endswith(".license") and os.path.exists(it.removesuffix(".license"))})
     texts = {name_of(one.id): one for it in found.values() for one in it if lines.SUFFIX.sub("", one.id) == one.id and one.licence}
     for file, answer in answers.items():
-        if " with " in answer and exceptions_of(found[file]):
+        if " with " in answer and exceptions_of(found.get(file, [])):
             texts.setdefault(answer, next(iter(exceptions_of(found[file]).values())))
     written = [f"Format: {FORMAT}" + (f"\nUpstream-Name: {name}" if name else "")]
     for answer, patterns in globs(answers).items() if answers else ():
-        holders = notices.merged(itertools.chain.from_iterable(notices.read(file) for file in sorted(answers) if answers[file] == answer))
+        holders = notices.merged(itertools.chain.from_iterable(notices.read(file) for file in sorted(answers) if answers[file] == answer and file in found))
         written.append("Files: " + "\n ".join(patterns) + "\nCopyright: " + "\n ".join(holders or ["FIXME"]) + f"\nLicense: {answer}")
     names = sorted({it for answer in answers.values() for it in re.split(r",? (?:and|or) ", answer)})
+    kept = {name_of(it): text for it, text in lines.kept_texts().items()}
     for it in names:
-        written.append(paragraph_of(it, text_of(texts[it]) if it in texts else ""))
+        written.append(paragraph_of(it, text_of(texts[it]) if it in texts else kept.get(it, "")))
     return "\n\n".join(written) + "\n"
 
 
@@ -130,7 +135,7 @@ def main():
     found = {}
     for match in lines.matches(sys.stdin):
         name = os.path.normpath(match.file)
-        if name != "debian/copyright":
+        if name != "debian/copyright" and not name.startswith(".pc/"):
             found.setdefault(name, []).append(match)
     try:
         sys.stdout.write(page(found, asked.name))

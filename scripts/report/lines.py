@@ -1,4 +1,5 @@
 """Reads the lines that `licscan scan` writes: matches with their variables, and the licences that they name."""
+import os
 import re
 import signal
 import sys
@@ -8,9 +9,12 @@ from dataclasses import dataclass, field
 NONE = re.compile(r"no-grant-|same-as-|other-file-|[A-Za-z]+-exception-([\d.]+-)?notice")
 # tags of which not all is known
 UNKNOWN = re.compile(r"unknown-identifier|cut-|(OR|AND)-field(-[b-z])?$")
-EXPRESSION = re.compile(r"expression-(OR|AND|WITH)-(.*?)(-[bc])?$")
+EXPRESSION = re.compile(r"expression-(OR|AND|WITH)-(.*?)(-[b-d])?(-dot)?$")
 WHOLE = re.compile(r"(own-)?expression(-b|-end-\d+)?$")
-SUFFIX = re.compile(r"(-(identifier|field|notice|mention))?(-[b-z])?$")
+SUFFIX = re.compile(r"(-(identifier|field|notice|mention))?(-[b-z]|-dot)?$")
+TAG = "SPDX-License-Identifier: "
+# parentheses before the last identifier of an expression, by the end of a template's name
+OPENED = {"-c": "(", "-d": "(("}
 # names of Debian and older ones, of tags and fields
 OLDER = re.compile(r"([AL]?GPL|GFDL)-?v?(\d)(\.\d)?(\+?)$", re.IGNORECASE)
 SAME = {"Expat": "MIT", "Apache-2": "Apache-2.0", "Apache2": "Apache-2.0", "BSD3": "BSD-3-Clause",
@@ -25,6 +29,8 @@ class Match:
     start: int
     end: int = 0
     values: list = field(default_factory=list)
+    # where each value begins and ends
+    spans: list = field(default_factory=list)
 
     @property
     def is_mention(self):
@@ -35,7 +41,7 @@ class Match:
         """The licence or the expression; '' where the template names none; None where not all of it is known."""
         if NONE.match(self.id):
             return ""
-        if UNKNOWN.match(self.id):
+        if UNKNOWN.match(self.id) or self.is_joined:
             return None
         expression = EXPRESSION.match(self.id)
         if expression:
@@ -43,13 +49,28 @@ class Match:
         if WHOLE.match(self.id):
             return " ".join(self.values[0].split())
         name = SUFFIX.sub("", self.id)
-        if re.search("-(identifier|field)(-[b-z])?$", self.id):
+        if re.search("-(identifier|field)(-[b-z]|-dot)?$", self.id):
             name = identifier(name)
         if name == "LicenseRef":
             return f"LicenseRef-{self.values[0]}"
         if name == "DocumentRef":
             return f"DocumentRef-{self.values[0]}:LicenseRef-{self.values[1]}"
         return name.replace("-OR-", " OR ").replace("-WITH-", " WITH ")
+
+
+    @property
+    def is_joined(self):
+        """Whether a dot and a word after a tag belong to it, and not to the next line: there is no blank before them, and one after the tag's colon."""
+        if self.id == "expression-b":
+            return self.values[1].startswith(".") and self.spans[0][1] == self.spans[1][0]
+        if not self.id.endswith("-dot"):
+            return False
+        expression = EXPRESSION.match(self.id)
+        if expression:
+            begin, text = self.spans[0][1], f" {expression[1]} {OPENED.get(expression[3], '')}{expression[2]}"
+        else:
+            begin, text = self.start, TAG + SUFFIX.sub("", self.id)
+        return self.spans[-1][0] == begin + len(text + ".")
 
 
 def identifier(name):
@@ -83,8 +104,19 @@ def matches(lines):
             last = Match(plain(fields[0]), plain(fields[1]), int(fields[4]), int(fields[5]))
         elif last and len(fields) == 5:
             last.values.append(plain(fields[4]))
+            last.spans.append((int(fields[2]), int(fields[3])))
     if last:
         yield last
+
+
+def kept_texts(folder="LICENSES"):
+    """The texts that a repository keeps by their identifiers, as REUSE has it."""
+    texts = {}
+    for file in sorted(os.listdir(folder)) if os.path.isdir(folder) else ():
+        if file.endswith(".txt"):
+            with open(os.path.join(folder, file), encoding="utf-8", errors="replace") as text:
+                texts[file.removesuffix(".txt")] = text.read().strip("\n")
+    return texts
 
 
 def answer(found):

@@ -21,11 +21,18 @@ MATCHES = [
     ("MIT", [], "MIT"), ("MIT-notice-b", [], "MIT"), ("GPL-2.0-b", [], "GPL-2.0"), ("GPL-2+-field", [], "GPL-2.0-or-later"), ("Expat-field", [], "MIT"),
     ("GPL-2.0-identifier", [], "GPL-2.0-only"), ("GPL-2.0-mention", ["2"], "GPL-2.0"), ("expression-OR-MIT", ["ISC"], "ISC OR MIT"),
     ("expression-OR-MIT-b", ["ISC"], "ISC OR MIT"), ("LicenseRef-identifier-c", ["A-B.2"], "LicenseRef-A-B.2"), ("DocumentRef-identifier-b", ["A", "B-C"], "DocumentRef-A:LicenseRef-B-C"),
-    ("expression", ["(MIT OR\n Own)", "int"], "(MIT OR Own)"), ("expression-b", ["Own", ".text"], "Own"), ("own-expression-end-2", ["LicenseRef-A.B"], "LicenseRef-A.B"),
+    ("expression", ["(MIT OR\n Own)", "int"], "(MIT OR Own)"), ("own-expression-end-2", ["LicenseRef-A.B"], "LicenseRef-A.B"),
     ("cut-expression-b", ["MIT OR LicenseRef-A", ".B"], None), ("cut-OR-MIT", ["ISC", "AND"], None), ("cut-MIT", ["OR"], None), ("cut-LicenseRef-b", ["A", "-"], None), ("OR-field-b", ["MIT"], None), ("MIT-field-d", [], "MIT"), ("GPL-2.0-notice-c", ["licensed", "v2"], "GPL-2.0"), ("unknown-identifier", [], None), ("no-grant-mention-b", ["not"], ""), ("other-file-notice", ["lua.h"], ""),
     ("Artistic-1.0-Perl-OR-GPL-1.0-or-later-notice", [], "Artistic-1.0-Perl OR GPL-1.0-or-later"), ("GCC-exception-3.1-notice", [], ""),
     ("Apache-2.0-WITH-LLVM-exception-notice", [], "Apache-2.0 WITH LLVM-exception"),
     ("GPL-2.0-with-GCC-exception-identifier", [], "GPL-2.0-with-GCC-exception"),
+]
+# templates of a tag at byte 3 and a dot after it, its values and where they are, and the licence: none where the dot belongs to the tag
+DOTS = [
+    ("MIT-identifier-dot", [("Foo", 32)], None), ("MIT-identifier-dot", [("text", 33)], "MIT"), ("GPL-2.0+-identifier-dot", [("1", 37)], None),
+    ("GPL-2.0-only-identifier-dot", [("text", 50)], "GPL-2.0-only"), ("expression-OR-MIT-dot", [("ISC", 28), ("Foo", 39)], None),
+    ("expression-OR-MIT-dot", [("ISC", 28), ("text", 40)], "ISC OR MIT"), ("expression-OR-MIT-c-dot", [("ISC", 28), ("Foo", 40)], None),
+    ("expression-b", [("Own", 28), (".Foo", 31)], None), ("expression-b", [("Own", 28), (".text", 32)], "Own"), ("expression-b", [("Own", 28), (":", 31)], "Own"),
 ]
 # what a file has, the field of debian/copyright, and the licences in the file as SPDX's documents have them
 FIELDS = [
@@ -46,10 +53,13 @@ NOTICES = [
     ("# Copyright: 2012 Xa Y\n# Copyright: 2012 Xa Y", ["2012 Xa Y"]), ("\u00a9 1999 - 2001, Firma", ["1999-2001 Firma"]), ("// copyright law of 1976", []),
     ('  puts("Copyright (C) 2005 Erik Sornes.\\n");\n  print("(c) 2006, Hil Liao")', ["2005 Erik Sornes", "2006 Hil Liao"]),
     ("Copyright (c) 1997--2022 M", []), ("Copyright (c) 1997--2022 Mn", ["1997-2022 Mn"]),
+    ("    SPDX-FileCopyrightText: 2001, 2011 A. Author <a@b.c>", ["2001, 2011 A. Author <a@b.c>"]), ("# SPDX-FileCopyrightText: A. Author", ["A. Author"]),
+    ("/* SPDX-FileCopyrightText: Copyright (C) 2019-2024, A. Author */", ["2019-2024 A. Author"]), ("<!-- SPDX-SnippetCopyrightText: © 2020 B -->", []),
+    ("<!-- SPDX-SnippetCopyrightText: © 2020 Bo -->", ["2020 Bo"]), ("SPDX-FileCopyrightText: 2020", []),
 ]
 # notices of several files, and those of their holders
 MERGED = [
-    (["2001 A", "1999-2001 B", "2003-04 A", "2002 A", "1999, 2002 B"], ["2001-2004 A", "1999-2002 B"]), (["2001 A", "2004 A"], ["2001, 2004 A"]),
+    (["2001 A", "1999-2001 B", "2003-04 A", "2002 A", "1999, 2002 B"], ["2001-2004 A", "1999-2002 B"]), (["2001 A", "2004 A"], ["2001, 2004 A"]), (["A", "2004 A", "B"], ["2004 A", "B"]),
     (["20010203 A", "2001 A", "2001-2-3 A"], ["20010203 A", "2001 A", "2001-2-3 A"]), ([], []),
 ]
 # the templates that are found in a file, and its answer
@@ -70,6 +80,7 @@ def main():
     tally = harness.Tally("cases of reports")
     cases = [(text, check.is_allowed(text, ALLOWED), answer) for text, answer in EXPRESSIONS]
     cases += [(id, lines.Match("f", id, 0, values=values).licence, licence) for id, values, licence in MATCHES]
+    cases += [(id, lines.Match("f", id, 3, values=[it for it, _ in values], spans=[(at, at + len(it)) for it, at in values]).licence, licence) for id, values, licence in DOTS]
     cases += [(names, debian.licence_of(names), field) for names, field, _ in FIELDS]
     cases += [(names, spdx.in_file(names), ids) for names, _, ids in FIELDS]
     cases += [(answers, debian.globs(answers), globs) for answers, globs in GLOBS]

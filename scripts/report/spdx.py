@@ -3,7 +3,7 @@
 
 LIST has the names of the files with a zero byte after each, as `git ls-files -z` writes them: a file without a match is in the document too. Each file
 has its SHA-1 checksum, the licences that stand in it (its texts, notices, tags and fields, or its mentions where it has nothing else), and the notices of
-its lines. What is concluded of them is left open: NOASSERTION. SOURCE_DATE_EPOCH sets the date. It is run in the folder of the files.
+its lines. A licence of one's own has the text of LICENSES/NAME.txt. What is concluded is left open: NOASSERTION. SOURCE_DATE_EPOCH sets the date. It is run in the folder of the files.
 """
 import argparse
 import datetime
@@ -54,7 +54,7 @@ def document(name, files):
     sums = sorted(it["checksums"][0]["checksumValue"] for it in files)
     code = hashlib.sha1("".join(sums).encode()).hexdigest()
     seconds = int(os.environ.get("SOURCE_DATE_EPOCH", datetime.datetime.now().timestamp()))
-    found = sorted({it for file in files for it in file["licenseInfoInFiles"]} - {"NONE", "NOASSERTION"})
+    found, kept = sorted({it for file in files for it in file["licenseInfoInFiles"]} - {"NONE", "NOASSERTION"}), lines.kept_texts()
     return {
         "spdxVersion": "SPDX-2.3", "dataLicense": "CC0-1.0", "SPDXID": "SPDXRef-DOCUMENT", "name": name,
         "documentNamespace": f"https://spdx.org/spdxdocs/{re.sub('[^A-Za-z0-9.-]', '-', name)}-{code}",
@@ -65,7 +65,7 @@ def document(name, files):
             "licenseInfoFromFiles": found or ["NONE"], "licenseDeclared": "NOASSERTION", "copyrightText": "NOASSERTION",
         }],
         "files": files,
-        "hasExtractedLicensingInfos": [{"licenseId": it, "name": it.removeprefix("LicenseRef-"), "extractedText": "NOASSERTION"}
+        "hasExtractedLicensingInfos": [{"licenseId": it, "name": it.removeprefix("LicenseRef-"), "extractedText": kept.get(it, "NOASSERTION")}
                                        for it in found if it.startswith("LicenseRef-")],
         "relationships": [{"spdxElementId": "SPDXRef-DOCUMENT", "relationshipType": "DESCRIBES", "relatedSpdxElement": "SPDXRef-Package"}]
                          + [{"spdxElementId": "SPDXRef-Package", "relationshipType": "CONTAINS", "relatedSpdxElement": it["SPDXID"]} for it in files],

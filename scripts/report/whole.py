@@ -2,14 +2,14 @@
 """Puts whole expressions in the place of tags that are said to be cut: whole.py WHOLE < LINES
 
 LINES is what licscan says by the starter set, WHOLE what it says by examples/expressions of the same files, or of those with such a tag. Lines
-whose template is `cut-..` or `unknown-identifier` give way to those of WHOLE that begin at the same byte; all others stay. Status: 0.
+whose template is `cut-..`, `unknown-identifier` or `..-dot` give way to those of WHOLE that begin at the same byte; all others stay. Status: 0.
 """
 import re
 import sys
 
 import lines
 
-CUT = re.compile(r"cut-|unknown-identifier$")
+CUT = re.compile(r"cut-|unknown-identifier$|.*-dot$")
 
 
 def groups(written):

@@ -9,8 +9,11 @@ rare: a text of less than seven letters is looked for at each byte of every file
 - expression-OR-MIT, expression-AND-MIT, expression-WITH-LLVM-exception ..: an expression with this end; its beginning is a variable.
 - expression-OR-GPL-2.0-c, cut-OR-GPL-2.0-c ..: the same with the last identifier in parentheses.
 - cut-OR-MIT ..: the same, and a mark or an operator after it.
+- MIT-identifier-dot, expression-OR-MIT-dot ..: an identifier, or an expression, then a dot and a word: it goes on with them, as `GPL-2.0.1` does, or
+  the next line begins with them (`.text`), and tokens do not tell which. Two dots begin a comment in reStructuredText.
 - cut-MIT ..: a tag of one identifier, and a mark or an operator after it; cut-MIT-c ..: parentheses and an operator. (Three parentheses before
   the identifier are a separator, which is no token.)
+- MIT-identifier-b, cut-MIT-b ..: a tag of one identifier in parentheses, and the same with an operator after it.
 - LicenseRef-identifier, -b, -c ..: one, two, three .. words after `LicenseRef-`; DocumentRef-identifier ..: the same of another document.
 - cut-LicenseRef, cut-DocumentRef: more words than those have, or a mark or an operator after them.
 - unknown-identifier: a tag alone, where it has none of these.
@@ -30,11 +33,14 @@ OPTIONAL_TAG = "SPDX<<beginOptional>>-License-Identifier: <<endOptional>>"
 OPEN = "<<beginOptional>>(<<endOptional>>"
 OPERAND = "[-+.:()a-z0-9]{1,60}"
 OPERATOR = "(or|and|with)"
+# the marks of ASCII, as ranges of a set
+MARKS = "!-/:-@[-`{-~"
 # an operator after parentheses that end
 CLOSED = r"\){1,12} " + OPERATOR
 # the same after the first parenthesis
 PAST_PARENTHESES = r"(\){1,11} )?" + OPERATOR
-MOST_OPERATORS = 8
+# more than any expression has: what is not there costs nothing
+MOST_OPERATORS = 100
 WORD = "[a-z0-9]{1,40}"
 JOINED = "[-._]{1,9}"
 OWN = "[-._a-z0-9]{0,400}[a-z0-9]"
@@ -53,9 +59,15 @@ def variable(name, original, pattern):
     return f'<<var;name="{name}";original="{original}";match="{pattern}">>'
 
 
+def dot(identifier, identifiers):
+    """A dot and a word after an identifier, but for a digit that makes it another one. The dot is a text, so that only files with it are gone over."""
+    others = "".join(it[len(identifier) + 1:] for it in identifiers if it.startswith(identifier + "."))
+    return "." + variable("next", "text", f"-?([^ {others}{MARKS}]|[^ {MARKS}]{{2,200}})")
+
+
 def more(identifier, identifiers, *others):
     """What a tag goes on with after an identifier, at least: a mark or an operator; `+` is none where the identifier with it is another one.
-    A dot is none: the next line may begin with it, as in a list of files."""
+    A dot has templates of its own, whose names do not say that the tag is cut."""
     marks = "-" if identifier + "+" in identifiers else "[-+]"
     return " " + variable("next", "OR", "|".join([marks, OPERATOR, *others]))
 
@@ -72,6 +84,13 @@ def ends(operator, last):
         yield "-c", OPTIONAL_TAG, f" {operator} {OPEN}({last}"
 
 
+def dotted_ends(operator, last):
+    """The same of an end with a dot, which is long enough without the tag."""
+    if len(f"{operator} {last}") < LONG_IDENTIFIER:
+        return [(letter, f" {operator} {opened}{last}") for letter, opened in (("", ""), ("-c", "("), ("-d", "(("))]
+    return [(letter, end) for letter, _, end in ends(operator, last)]
+
+
 def expressions():
     first = variable("beginning", "ISC", f"{OPERAND}( {OPERATOR} {OPERAND}){{0,{MOST_OPERATORS - 1}}}")
     known = [(operator, last) for operator in ("OR", "AND") for last in LAST] + [("WITH", last) for last in EXCEPTIONS]
@@ -79,6 +98,8 @@ def expressions():
         for letter, tag, end in ends(operator, last):
             yield f"expression-{operator}-{last}{letter}", tag + first + end
             yield f"cut-{operator}-{last}{letter}", tag + first + end + more(last, LAST, CLOSED)
+        for letter, end in dotted_ends(operator, last):
+            yield f"expression-{operator}-{last}{letter}-dot", OPTIONAL_TAG + first + end + dot(last, LAST)
     for tag, last in ((OPTIONAL_TAG, "Apache-2.0"), (TAG, "MIT")):
         yield f"expression-OR-{last}-b", f"{tag}{first}/{last}"
 
@@ -88,7 +109,11 @@ def identifiers():
     known = tags.read_list(os.path.join(HERE, "tags.txt"))
     for identifier in known:
         yield f"cut-{identifier}", TAG + identifier + more(identifier, known)
+        yield f"{identifier}-identifier-dot", TAG + identifier + dot(identifier, known)
         yield f"cut-{identifier}-c", f"{TAG}{identifier}) {variable('next', 'OR', PAST_PARENTHESES)}"
+    for identifier in [it for it in LAST if it in known]:
+        yield f"{identifier}-identifier-b", f"{TAG}({identifier})"
+        yield f"cut-{identifier}-b", f"{TAG}({identifier}) {variable('next', 'OR', OPERATOR)}"
     for kind, beginning in (("LicenseRef", "LicenseRef-"), ("DocumentRef", f"DocumentRef-{variable('document', 'Other', OWN)}:LicenseRef-")):
         for count in range(1, LONGEST_IDENTIFIER + 1):
             words = WORD + (f"({JOINED}{WORD}){{{count - 1}}}" if count > 1 else "")

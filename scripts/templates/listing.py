@@ -9,9 +9,9 @@ import starter
 
 PAGE = os.path.join(starter.EXAMPLES, "TEMPLATES.md")
 RULE = re.compile(r"<<(?:var;.*?|beginOptional|endOptional)>>", re.S)
-KIND = re.compile(r"-(identifier|field|notice|mention)(-[b-z])?$")
+KIND = re.compile(r"-(identifier|field|notice|mention)(-[b-z]|-dot)?$")
 # they are cut at more words, too
-CUT = {"cut-LicenseRef", "cut-DocumentRef"}
+CUT = {"cut-LicenseRef", "cut-DocumentRef", "cut-LicenseRef-b", "cut-DocumentRef-b"}
 # letters of a text that are shown
 MOST_LETTERS = 160
 HEAD = """\
@@ -95,11 +95,11 @@ def page():
     lines += ["## Fields\n", wrapped("`NAME-field`, `-b` ..: a field of a manifest or header, such as `\"license\": \"MIT\"`, `License: GPL-2+`, "
                                      "`license = \"ISC\"`, `__license__ = \"BSD\"`. `OR-field`: one with two identifiers. NAME is") + "\n",
               names("field", found, KIND) + "\n"]
-    implied = {f"cut-{KIND.sub('', it)}" for it in found["identifier"]} - CUT | {it for it in found["expression"] if it.endswith("-c")}
+    implied = {f"cut-{KIND.sub('', it)}{letter}" for it in found["identifier"] for letter in ("", "-b")} - CUT | {it for it in found["expression"] if it.endswith(("-c", "-dot"))}
     lines += ["## Expressions\n", wrapped("`expression-OR-MIT`: `SPDX-License-Identifier: ISC OR MIT`; `cut-OR-MIT`: the same where the tag goes on, as "
                                           "in `ISC OR MIT-Own`; `cut-MIT`: a tag that goes on after its first identifier, as `MIT OR Own`. There is such a "
-                                          "one of each tag above. With `-c` at the end: the last identifier is in parentheses, as in `ISC OR (GPL-2.0)`. The "
-                                          "other names are") + "\n",
+                                          "one of each tag above, and `-b` of one in parentheses. With `-c` at the end: the last identifier is in parentheses, as in `ISC OR (GPL-2.0)`. With "
+                                          "`-dot`, as each tag above has it too: a dot and a word follow, as in `MIT.Foo`. The other names are") + "\n",
               names("expression", {"expression": found["expression"].keys() - implied}, "(?!)") + "\n"]
     return "\n".join(lines)
 

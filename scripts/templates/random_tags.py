@@ -1,10 +1,10 @@
 #!/usr/bin/env python3
 """Tries random expressions of the grammar of SPDX as tags: random_tags.py PROGRAM [--count N] [--operators N] [--seed N]
 
-Each has up to so many operators, identifiers of the set and others, `+`, LicenseRef- and DocumentRef- ones, exceptions, parentheses at any
-depth, and operators in either case. Each is to be reported by one line: whole, or by a template that says that it is cut. With --whole the
-templates are those of examples/expressions, and none may be cut but at the end of a file, where it has more items than they have. Status: 0 if
-each is as it is to be.
+Each has up to so many operators, identifiers of the set and others, some with dots, `+`, LicenseRef- and DocumentRef- ones, exceptions,
+parentheses at any depth, and operators in either case. Each is to be reported by one line: whole, or by a template that says that it is cut, or
+that a dot follows. With --whole the templates are those of examples/expressions, and none may be cut but one with a dot before a letter, and at
+the end of a file one of more items than they have. Status: 0 if each is as it is to be.
 """
 import argparse
 import collections
@@ -26,17 +26,18 @@ import lines
 KNOWN = tags.read_list(os.path.join(os.path.dirname(os.path.abspath(__file__)), "tags.txt"))
 WORDS = ["Own", "MIT", "Foo", "2.0", "or", "later", "and", "with", "GPL", "1", "clause", "x", "B2"]
 # what is after a tag
-FOLLOWING = ["", "\n", "\n#include <a.h>\n", "\nint main(void);\n", "\n\nCopyright 2020 A. Author\n", "\nSPDX-License-Identifier: MIT\n"]
+FOLLOWING = ["", "\n", "\n#include <a.h>\n", "\nint main(void);\n", "\n\nCopyright 2020 A. Author\n", "\nSPDX-License-Identifier: MIT\n",
+             "\n.text\n", "\n\n.PHONY: all\n"]
 
 
 def identifier(draw):
     kind = draw.random()
-    own = "-".join(draw.choice(WORDS) for _ in range(draw.choice((1, 1, 2, 2, 3, 4, 6, 9))))
+    own = draw.choice(WORDS) + "".join(draw.choice("-----.") + draw.choice(WORDS) for _ in range(draw.choice((0, 0, 1, 1, 2, 3, 5, 8))))
     if kind < 0.5:
         found = draw.choice(expressions.LAST if kind < 0.25 else KNOWN)
         return found.rstrip("+") + "+" if draw.random() < 0.1 else found
     if kind < 0.65:
-        return f"{draw.choice(KNOWN).rstrip('+')}-{own}"
+        return f"{draw.choice(KNOWN).rstrip('+')}{draw.choice('---.')}{own}"
     if kind < 0.8:
         return f"LicenseRef-{own}"
     return f"DocumentRef-{own}:LicenseRef-{own}" if kind < 0.85 else own + ("+" if draw.random() < 0.1 else "")
@@ -59,23 +60,28 @@ def plain(text):
     return " ".join(re.sub(r"[()]", " ", text.replace("\\n", " ").lower()).split())
 
 
-def may_be_cut(tag, at_end):
-    """Whether examples/expressions have too few items for a tag."""
-    return at_end and len(re.findall(r"[-.+):]|\b(?:or|and|with)\b", tag.lower())) > whole_expressions.MOST_ITEMS
+def may_be_cut(tag, following):
+    """Whether examples/expressions have too few items for a tag, or a dot before a letter, which is in the tag or follows a name of one's own."""
+    items = len(re.findall(r"[-.+):]|\b(?:or|and|with)\b", tag.lower()))
+    is_dotted = re.search(r"\.[A-Za-z]", tag) or (following.strip().startswith(".") and "LicenseRef" in tag)
+    return bool(is_dotted) or (not following.strip() and items > whole_expressions.MOST_ITEMS)
 
 
-def fault(tag, found, is_cut_allowed):
-    """What is wrong with the matches of a tag; nothing where it is whole, or said to be cut."""
-    if len(found) == 1 and (plain(found[0].whole or "") == plain(tag) or (found[0].licence is None and is_cut_allowed)):
-        return None
-    return f"{tag}: {[(it.id, it.values) for it in found]}"
+def kind_of(tag, following, match):
+    """Whether a tag is whole in a match, or cut and said to be."""
+    # the value of an own identifier goes on with a dot of the next line, and shows where that begins
+    dotted = re.match(r"\s*\.\w+", following)
+    if plain(match.whole or "") in {plain(tag), plain(tag + (dotted[0] if dotted else ""))}:
+        return "whole"
+    return "cut" if match.licence is None or match.id.endswith("-dot") else "wrong"
 
 
 class Match(lines.Match):
     @property
     def whole(self):
         """What the template says of a tag, without a name of Debian made to one of SPDX."""
-        return re.sub("-identifier$", "", self.id) if self.id.endswith("-identifier") and not self.values else self.licence
+        name = re.fullmatch("(?!LicenseRef|DocumentRef|unknown)(.*)-identifier(-b|-dot)?", self.id)
+        return name[1] if name and not self.is_joined else self.licence
 
 
 def trial(program, folder, count, operators, seed, whole=False):
@@ -86,7 +92,7 @@ def trial(program, folder, count, operators, seed, whole=False):
         for number in range(count):
             tag = expression(draw, draw.randrange(draw.choice((1, 2, 3, 6, operators)) + 1))
             following = draw.choice(FOLLOWING)
-            drawn[str(number)] = tag, not whole or may_be_cut(tag, not following.strip())
+            drawn[str(number)] = tag, following
             with open(os.path.join(place, str(number)), "w", encoding="utf-8") as file:
                 file.write(f"// SPDX-License-Identifier: {tag}{following}")
         names = list(drawn)
@@ -97,10 +103,13 @@ def trial(program, folder, count, operators, seed, whole=False):
                 # the tag that follows some is not looked at
                 if match.start < 10:
                     found[match.file].append(Match(**vars(match)))
-    for name, (tag, is_cut_allowed) in drawn.items():
-        wrong = fault(tag, found[name], is_cut_allowed)
-        faults += [wrong] if wrong else []
-        tally["wrong" if wrong else "cut" if found[name][0].licence is None else "whole"] += 1
+    for name, (tag, following) in drawn.items():
+        kinds = [kind_of(tag, following, match) for match in found[name]]
+        if kinds == ["whole"] or kinds == ["cut"] and (not whole or may_be_cut(tag, following)):
+            tally[kinds[0]] += 1
+        else:
+            tally["wrong"] += 1
+            faults.append(f"{tag}{following}: {[(it.id, it.values) for it in found[name]]}")
     return faults, tally
 
 

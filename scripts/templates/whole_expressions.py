@@ -15,25 +15,22 @@ Their variables reach far, so they cost several times what the starter set costs
 import os
 import sys
 
-from expressions import ENDING, TAG, variable
+from expressions import ENDING, MARKS, MOST_OPERATORS, OPERATOR, TAG, variable
 
 MOST_ITEMS = 30
-# the marks of ASCII, as ranges of a set
-MARKS = "!-/:-@[-`{-~"
-OPERATOR = "(or|and|with)"
 OPEN, CLOSE = r"\({0,12}", r"\){0,12}"
 IDENTIFIER = r"[-_a-z0-9]{0,80}[a-z0-9](\.[0-9]([-_a-z0-9]{0,60}[a-z0-9])?){0,5}"
 OWN = "(documentref-[-_.a-z0-9]{1,120}:)?(licenseref|additionref)-[-_.a-z0-9]{0,120}[a-z0-9]"
 OPERAND = rf"{OPEN}({IDENTIFIER}|{OWN})\+?{CLOSE}"
-EXPRESSION = f"{OPERAND}( {OPERATOR} {OPERAND}){{0,40}}"
+MIDDLE = f"( {OPERATOR} {OPERAND}){{0,{MOST_OPERATORS}}}"
+EXPRESSION = OPERAND + MIDDLE
 WORD = "[a-z0-9]{1,60}"
 # the first word of an expression, if it ends with these letters or not
 REF = "[a-z0-9]{0,60}ref"
 NO_REF = "([a-z0-9]{0,60}([a-eg-z0-9]|[a-df-z0-9]f|[a-qs-z0-9]ef)|e?f)"
-REST = rf"([-_]{{1,3}}{WORD}|\.[0-9][a-z0-9]{{0,60}}){{0,12}}"
+REST = rf"([-_]{{1,3}}{WORD}|\.[0-9][a-z0-9]{{0,60}}){{0,60}}"
 # an operand that is none of one's own, and expressions that begin with one: such a one alone or last, and one of one's own last
 NO_OWN = rf"{OPEN}{NO_REF}{REST}\+?{CLOSE}"
-MIDDLE = f"( {OPERATOR} {OPERAND}){{0,40}}"
 NO_OWN_LAST = f"{NO_OWN}({MIDDLE} {OPERATOR} {NO_OWN})?"
 OWN_LAST = f"{NO_OWN}{MIDDLE} {OPERATOR} {OPEN}{OWN}"
 ITEM = rf"[-_]{{1,3}}{WORD}|\.[0-9][a-z0-9]{{0,60}}|\+|\)|:(licenseref|additionref)| {OPERATOR} {OPEN}{WORD}"

@@ -21,8 +21,8 @@ Dir::Cache "{0}/cache";
 MAX_BYTES = 5_000_000
 # drawn at most, for each that is wanted: of some copies of Debian's archive most packages cannot be fetched
 TRIES = 30
-# how many of the first that another seed draws are left out
-OF_A_SEED = 240
+# how many of the first that another seed draws are left out: as many as a draw of 24 packages may try
+OF_A_SEED = 720
 
 
 def prepare(folder, suite):

@@ -20,7 +20,7 @@ use Rattle.lic_trim.specs.declared.source.SourceChar.{SourceChar}
 use Rattle.lic_trim.proofs.AsciiLemmas.{chars_of-placed, length-placed}
 use Rattle.lic_trim.proofs.TailSequences.{greatest_le}
 use Rattle.lic_columns.specs.Bytes.{is_word, is_mark, is_feed}
-use Rattle.lic_columns.specs.Edges.{AreBlank, byte_lines, edges_blanked, lines_blanked}
+use Rattle.lic_columns.specs.Edges.{AreBlank, byte_lines, edges_blanked, lines_blanked, AreCleared}
 use Rattle.lic_columns.specs.Flags.{cleared}
 use Rattle.lic_columns.specs.Known.{Known, IsText, known_of, is_dark}
 use Rattle.lic_columns.specs.Masks.{flag_at}
@@ -258,15 +258,6 @@ module _ (text : List ℕ) (feed : List Bool) (at end : ℕ) (is : feed ≡ map 
             feed_at count (omega (arith, rest)) ∙ ap (flag_at feed) e ∙ (ended (omega (arith, rest, as_long, size))).1)
             ∙ ap₂ (λ n l. take n (drop at text) ∷ byte_lines l) size (drop-drop (suc count) at text ∙ ap (λ n. drop n text) sum);
       }
-
--- the edges of the lines before this place are cleared, and what clears those after it clears all
-pub record AreCleared (rules : LineRules) (text : List ℕ) (at : ℕ) (known : Known) : Type 0 where
-  pub within : at ≤ length text
-  pub feed : known.feed ≡ map is_feed text
-  pub word : length known.word ≡ length text
-  pub mark : length known.mark ≡ length text
-  pub blank : (k : ℕ) → is_whitespace (get_or text k 0) ≡ true → is_dark known k ≡ false
-  pub left : lines_blanked rules at (byte_lines (drop at text)) known ≡ lines_blanked rules 0 (byte_lines text) (known_of text)
 
 pub start_cleared : (rules : LineRules) (text : List ℕ) (known : Known) → IsAscii text → known ≡ known_of text → AreCleared rules text 0 known
 start_cleared rules text known ascii is = record {

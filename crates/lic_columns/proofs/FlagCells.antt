@@ -14,8 +14,7 @@ use Rattle.lic_columns.specs.Bytes.{letter}
 use Rattle.lic_columns.specs.Masks.{flag_at, flag_before}
 use Rattle.lic_columns.specs.Marks.{is_same_as_next, same_as_next, middles, is_in_separator, is_joining, is_joined, joined_marks, without_separators}
 use Rattle.lic_columns.proofs.FlagLemmas.{length-listed, flag_at-listed}
-use Rattle.lic_columns.proofs.MarkLemmas.{joined_is, same_is}
-use Rattle.lic_columns.proofs.TextLemmas.{same_at, middle_at}
+use Rattle.lic_columns.proofs.MarkLemmas.{joined_at, same_at, middle_at}
 use Rattle.lic_columns.proofs.SpanLemmas.{column_cell, column_cells, CellFits, Fit}
 use Rattle.lic_columns.proofs.Separators.{same_first, unmarked, is_gone, parted, one_before, two_before, parted-at}
 
@@ -136,7 +135,7 @@ module _ (at : ℕ) (bytes : List ℕ) (cells : List Cell) (fit : Fit at bytes c
   before_flag (suc k) = same_flag k
 
   middle_flag : (k : ℕ) → flag_at (middles (same_as_next bytes (marks cells))) k ≡ (one_before false cells k && same_first (drop k cells))
-  middle_flag k = middle_at bytes (marks cells) k ∙ ap₂ (λ t u. t && u) (before_flag k) (same_flag k)
+  middle_flag k = middle_at (same_as_next bytes (marks cells)) k ∙ ap₂ (λ t u. t && u) (before_flag k) (same_flag k)
 
   before_middle : (k : ℕ) → flag_before (middles (same_as_next bytes (marks cells))) k ≡ (two_before false false cells k && one_before false cells k)
   before_middle zero = refl
@@ -252,10 +251,10 @@ module _ (at : ℕ) (bytes : List ℕ) (cells : List Cell) (fit : Fit at bytes c
   apart k = ap₂ (λ t u. t && u) (word_at cells k) (mark_at cells k) ∙ apart_cell (get_or cells k Blank)
 
   joined_here : (k : ℕ) → flag_at (joined_marks letters (marks cells)) k ≡ is_joined letters (same_as_next letters (marks cells)) (marks cells) k
-  joined_here = joined_is letters (words cells) (marks cells) long apart
+  joined_here = joined_at letters (marks cells)
 
   same_letters : (k : ℕ) → flag_at (same_as_next letters (marks cells)) k ≡ is_same_as_next letters (marks cells) k
-  same_letters = same_is letters (words cells) (marks cells) long apart
+  same_letters = same_at letters (marks cells)
 
   letter_at : (k : ℕ) → k < length cells → get_or letters k 0 ≡ letter (get_or bytes k 0)
   letter_at k lt = get_or-map letter bytes k 0 0 (omega (arith, length-Fit at bytes cells fit))

@@ -1,11 +1,9 @@
 -- Columns seen as a list of flags.
-use Rattle.std.proofs.Common.{◌≡◌, zero, suc, ℕ, ◌+◌, ◌-◌, ◌*◌, ◌/◌, ◌%◌, ◌^◌, ◌<◌, ◌≤◌, Bool, true, false, not, ◌&&◌, ◌||◌, List, [], ◌∷◌, ◌++◌, get_or, length, set, refl, ap, sym, ◌∙◌, arith, inl, inr, min, take, drop, map, subst}
+use Rattle.std.proofs.Common.{◌≡◌, zero, suc, ℕ, ◌+◌, ◌-◌, ◌*◌, ◌/◌, ◌%◌, ◌^◌, ◌<◌, ◌≤◌, Bool, true, false, not, ◌&&◌, ◌||◌, List, [], ◌∷◌, ◌++◌, get_or, length, set, refl, ap, sym, ◌∙◌, arith, inl, inr, map}
 use Rattle.std.proofs.lemmas.Bool.{cases_lt, cases_eq}
-use Rattle.std.proofs.lemmas.List.{get_or_past, ext_get_or, length-append, length_push, get_or_push, get_or_append_left, get_or-append_right, get_or-set_same, get_or-set_other, length-set, get_or-take, get_or-drop, length-take, length-take-le, length-drop, take_all}
+use Rattle.std.proofs.lemmas.List.{get_or_past, ext_get_or, length-append, length_push, get_or_push, get_or_append_left, get_or-append_right, get_or-set_same, get_or-set_other, length-set}
 use Rattle.std.proofs.lemmas.List.FromFn.{get_or-map-range_with_len, length-map-range_with_len}
-use Rattle.std.proofs.Math.Seq.{take-add}
 use Rattle.std.specs.List.{range_with_len}
-use Rattle.lic_columns.proofs.MaskLemmas.{mask-lt}
 use Rattle.lic_columns.specs.Masks.{has_bit, flag_at, flag_before, IsMask}
 use Rattle.lic_columns.specs.Flags.{bits_of, has, flags_in, is_within, cleared}
 use Rattle.lic_columns.proofs.BitLemmas.{has_bit_zero, has_bit_above, within_is, within_before, within_after}
@@ -22,6 +20,14 @@ flag_at-bits_of n mask k inside = get_or-map-range_with_len (λ j. has_bit mask 
 pub bits_of-mask : (mask : ℕ) (flags : List Bool) (n : ℕ) → IsMask mask flags → length flags ≡ n → bits_of n mask ≡ flags
 bits_of-mask mask flags n is long = ext_get_or false (bits_of n mask) flags (length-bits_of n mask ∙ sym long)
     (λ i inside. flag_at-bits_of n mask i (omega (arith, length-bits_of n mask)) ∙ is.bit i)
+
+pub IsMask-bits_of : (mask : ℕ) → mask < 2 ^ 64 → IsMask mask (bits_of 64 mask)
+IsMask-bits_of mask fits = record {
+  bit = λ k. elim (cases_lt k 64) [
+    | inl low ↦ sym (flag_at-bits_of 64 mask k low)
+    | inr high ↦ has_bit_above mask 64 k fits high ∙ sym (get_or_past (bits_of 64 mask) k false (omega (arith, length-bits_of 64 mask)))
+  ];
+}
 
 pub length-flags_in : (n : ℕ) (columns : List ℕ) → length (flags_in n columns) ≡ n
 length-flags_in n columns = length-map-range_with_len (λ k. has columns k) 0 n
@@ -199,37 +205,7 @@ module _ (n from to : ℕ) (old new : List ℕ) (rest : (k : ℕ) → n ≤ k �
       (λ k within. flag-is n new rest_cleared k ∙ is.bits k
       ∙ ap (λ t. t && not (is_within from to k)) (sym (flag-is n old rest k)) ∙ sym (flag_at-cleared from to (flags_in n old) k))
 
--- ---- a list of flags, column by column
-
-pub bits_fit : (mask n : ℕ) → mask < 2 ^ 64 → n ≤ 64 → ((i : ℕ) → n ≤ i → i < 64 → has_bit mask i ≡ false) → mask < 2 ^ n
-bits_fit mask n fits small none =
-    let is : IsMask mask (bits_of n mask) = record {
-      bit = λ k. elim (cases_lt k n) [
-        | inl low ↦ sym (flag_at-bits_of n mask k low)
-        | inr high ↦ elim (cases_lt k 64) [
-          | inl inside ↦ none k high inside ∙ sym (get_or_past (bits_of n mask) k false (omega (arith, length-bits_of n mask)))
-          | inr past ↦ has_bit_above mask 64 k fits past ∙ sym (get_or_past (bits_of n mask) k false (omega (arith, length-bits_of n mask)))
-        ]
-      ];
-    } in
-    subst (λ m. mask < 2 ^ m) (length-bits_of n mask) (mask-lt mask (bits_of n mask) is)
-
-module _ (all old : List Bool) (mask count len : ℕ) (long : length all ≡ len) (begun : old ≡ take (length old) all) (is_count : count ≡ min (len - length old) 64)
-    (bits : (i : ℕ) → i < 64 → length old + i < len → has_bit mask i ≡ flag_at all (length old + i)) where
-  next_bits : bits_of count mask ≡ take 64 (drop (length old) all)
-  next_bits = ext_get_or false (bits_of count mask) (take 64 (drop (length old) all))
-      (length-bits_of count mask ∙ is_count
-      ∙ let e : min (len - length old) 64 ≡ min 64 (length all - length old) = omega arith in e
-      ∙ ap (λ n. min 64 n) (sym (length-drop (length old) all)) ∙ sym (length-take 64 (drop (length old) all)))
-      (λ i within.
-      let low : i < count = omega (arith, length-bits_of count mask) in
-      let small : i < 64 = omega arith in
-      let inside : length old + i < len = omega arith in
-      flag_at-bits_of count mask i low ∙ bits i small inside
-      ∙ sym (get_or-take 64 (drop (length old) all) i false small ∙ get_or-drop (length old) all i false))
-
-  pub one_column_more : old ++ bits_of count mask ≡ take (length old + 64) all
-  one_column_more = ap (λ l. old ++ l) next_bits ∙ ap (λ l. l ++ take 64 (drop (length old) all)) begun ∙ sym (take-add (length old) 64 all)
+-- ---- a list that is made of a test at each of its places
 
 -- a list that is made of a test at each of the first n places
 abbrev pub listed : (ℕ → Bool) → ℕ → List Bool
@@ -240,22 +216,3 @@ length-listed p n = length-map-range_with_len p 0 n
 
 pub flag_at-listed : (p : ℕ → Bool) (n k : ℕ) → k < n → flag_at (listed p n) k ≡ p k
 flag_at-listed p n k inside = get_or-map-range_with_len p 0 n k k false inside (omega arith)
-
-module _ (p : ℕ → Bool) (row : List Bool) (k n count : ℕ) (begun : row ≡ take (k * 64) (listed p n)) (is_count : count ≡ (n + 63) / 64) where
-  -- the columns before are whole
-  pub rows_length : k < count → length row ≡ k * 64
-  rows_length more = ap length begun ∙ length-take-le (k * 64) (listed p n) (omega (arith, length-listed p n))
-
-  pub row_next : k < count → (mask len : ℕ) (new : List Bool) → len ≡ n → ((i : ℕ) → i < 64 → has_bit mask i ≡ p (k * 64 + i))
-      → ((all : List Bool) → length all ≡ len → ((i : ℕ) → i < 64 → length row + i < len → has_bit mask i ≡ flag_at all (length row + i))
-      → row ≡ take (length row) all → new ≡ take (length row + 64) all)
-      → new ≡ take ((k + 1) * 64) (listed p n)
-  row_next more mask len new same bits pushed =
-      let size : length row ≡ k * 64 = rows_length more in
-      pushed (listed p n) (length-listed p n ∙ sym same)
-      (λ i small inside. bits i small ∙ ap p (let e : k * 64 + i ≡ length row + i = omega arith in e) ∙ sym (flag_at-listed p n (length row + i) (omega arith)))
-      (begun ∙ ap (λ m. take m (listed p n)) (sym size))
-      ∙ ap (λ m. take m (listed p n)) (let e : length row + 64 ≡ (k + 1) * 64 = omega arith in e)
-
-  pub row_done : count ≤ k → row ≡ listed p n
-  row_done all = begun ∙ take_all (k * 64) (listed p n) (omega (arith, length-listed p n))

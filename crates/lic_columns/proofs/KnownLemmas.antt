@@ -3,7 +3,7 @@ use Rattle.std.proofs.Common.{◌≡◌, ℕ, ◌^◌, ◌<◌, ◌≤◌, Bool,
 use Rattle.std.proofs.lemmas.Bool.{cases_lt}
 use Rattle.std.proofs.lemmas.List.{get_or-map, get_or_past, get_or-take, length-map, length-take-le, map-append, get_or_default}
 use Rattle.lic_kind.specs.Kinds.{kind_of}
-use Rattle.lic_columns.specs.Bytes.{letter, is_word, is_mark, is_feed, is_high}
+use Rattle.lic_columns.specs.Bytes.{letter, is_word, is_mark, is_feed}
 use Rattle.lic_columns.specs.Masks.{flag_at, IsMask}
 use Rattle.lic_columns.specs.Flags.{bits_of}
 use Rattle.lic_columns.specs.Known.{Known, HasLength, known_of, followed_by}
@@ -11,9 +11,9 @@ use Rattle.lic_columns.proofs.MaskLemmas.{mask-lt}
 use Rattle.lic_columns.proofs.FlagLemmas.{bits_of-mask}
 
 -- a blank is of no kind that has a flag
-pub blank_is_none : (is_word 32 ≡ false) × (is_mark 32 ≡ false) × (is_feed 32 ≡ false) × (is_high 32 ≡ false)
+pub blank_is_none : (is_word 32 ≡ false) × (is_mark 32 ≡ false) × (is_feed 32 ≡ false)
 unfolding kind_of
-blank_is_none = (refl, refl, refl, refl)
+blank_is_none = (refl, refl, refl)
 
 flag_at-map : (p : ℕ → Bool) (bytes : List ℕ) (k : ℕ) → p 32 ≡ false → flag_at (map p bytes) k ≡ p (get_or bytes k 32)
 flag_at-map p bytes k none = elim (cases_lt k (length bytes)) [
@@ -49,17 +49,16 @@ module _ (p : ℕ → Bool) (none : p 32 ≡ false) (bytes : List ℕ) (long : l
 
 -- ---- the record
 
-abbrev pub made : List ℕ → List Bool → List Bool → List Bool → List Bool → Known
-made letters word mark feed high = record { letters = letters; word = word; mark = mark; feed = feed; high = high }
+abbrev pub made : List ℕ → List Bool → List Bool → List Bool → Known
+made letters word mark feed = record { letters = letters; word = word; mark = mark; feed = feed }
 
-pub same_known : {l l' : List ℕ} {w w' m m' f f' h h' : List Bool} → l ≡ l' → w ≡ w' → m ≡ m' → f ≡ f' → h ≡ h' → made l w m f h ≡ made l' w' m' f' h'
-same_known {l = l} {l' = l'} {w = w} {w' = w'} {m = m} {m' = m'} {f = f} {f' = f'} {h = h} {h' = h'} a b c d e =
-    ap (λ x. made x w m f h) a ∙ ap (λ x. made l' x m f h) b ∙ ap (λ x. made l' w' x f h) c ∙ ap (λ x. made l' w' m' x h) d ∙ ap (λ x. made l' w' m' f' x) e
+pub same_known : {l l' : List ℕ} {w w' m m' f f' : List Bool} → l ≡ l' → w ≡ w' → m ≡ m' → f ≡ f' → made l w m f ≡ made l' w' m' f'
+same_known {l = l} {l' = l'} {w = w} {w' = w'} {m = m} {m' = m'} {f = f} {f' = f'} a b c d =
+    ap (λ x. made x w m f) a ∙ ap (λ x. made l' x m f) b ∙ ap (λ x. made l' w' x f) c ∙ ap (λ x. made l' w' m' x) d
 
 pub known_of-append : (one two : List ℕ) → followed_by (known_of one) (known_of two) ≡ known_of (one ++ two)
 known_of-append one two = same_known
-    (sym (map-append letter one two)) (sym (map-append is_word one two)) (sym (map-append is_mark one two))
-    (sym (map-append is_feed one two)) (sym (map-append is_high one two))
+    (sym (map-append letter one two)) (sym (map-append is_word one two)) (sym (map-append is_mark one two)) (sym (map-append is_feed one two))
 
 pub HasLength-known_of : (bytes : List ℕ) → HasLength (length bytes) (known_of bytes)
 HasLength-known_of bytes = record {
@@ -67,5 +66,4 @@ HasLength-known_of bytes = record {
   word = length-map bytes is_word;
   mark = length-map bytes is_mark;
   feed = length-map bytes is_feed;
-  high = length-map bytes is_high;
 }

@@ -4,10 +4,12 @@ pub mod ByteLemmas
 pub mod BitLemmas
 pub mod FlagLemmas
 pub mod PlaceLemmas
+pub mod PlaceLists
 pub mod Finds
 pub mod KnownLemmas
 pub mod CellLemmas
 pub mod MarkLemmas
+pub mod ColumnLemmas
 pub mod TextLemmas
 pub mod FirstTokens
 pub mod SpanLemmas
@@ -19,4 +21,5 @@ pub mod BlankEdges
 pub mod EdgesOfLines
 pub mod SpanTokenLemmas
 pub mod AsciiLetters
+pub mod Listed
 pub mod ReadLines

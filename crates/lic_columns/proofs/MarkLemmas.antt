@@ -1,11 +1,11 @@
 -- Streaks of marks, bit by bit.
-use Rattle.std.proofs.Common.{◌≡◌, ℕ, zero, suc, ◌+◌, ◌*◌, ◌<◌, ◌≤◌, Bool, true, false, not, ◌&&◌, if◌then◌else◌, List, [], length, get_or, refl, ap, sym, ◌∙◌, inl, inr, arith}
+use Rattle.std.proofs.Common.{◌≡◌, ℕ, suc, ◌+◌, ◌*◌, ◌<◌, ◌≤◌, Bool, true, false, not, ◌&&◌, if◌then◌else◌, List, length, get_or, refl, ap, sym, ◌∙◌, inl, inr, arith}
 use Rattle.std.proofs.lemmas.Bool.{cases_lt, and_parts}
-use Rattle.std.proofs.lemmas.List.{get_or_past, ext_get_or}
+use Rattle.std.proofs.lemmas.List.{get_or_past}
 use Rattle.std.specs.Prelude.{◌==◌, bit_and}
 use Rattle.lic_columns.specs.Masks.{has_bit, flag_at, flag_before}
 use Rattle.lic_columns.specs.Cells.{AreCells}
-use Rattle.lic_columns.specs.Marks.{is_same_as_next, same_as_next, is_joined, joined_marks, kept_by, is_in_separator, is_joining, middles, without_separators}
+use Rattle.lic_columns.specs.Marks.{is_same_as_next, same_as_next, is_joined, joined_marks, kept_by, is_in_separator, is_joining, is_middle, middles, without_separators}
 use Rattle.lic_columns.proofs.BitLemmas.{has_bit_and, has_bit_zero}
 use Rattle.lic_columns.proofs.FlagLemmas.{length-listed, flag_at-listed}
 
@@ -47,34 +47,6 @@ module _ (text : List ℕ) (marks : List Bool) (k here after i : ℕ) (small : i
       cut true u v = refl
       cut false u v = refl
 
--- flags of marks of a column whose letter is that of the one before
-module _ (letters : List ℕ) (same marks : List Bool) (k here before i : ℕ) (small : i < 64)
-    (bits : has_bit here i ≡ flag_at marks (k * 64 + i)) (prior : has_bit before i ≡ flag_before same (k * 64 + i)) where
-  pair_bits : has_bit (bit_and here before) i ≡ (flag_at marks (k * 64 + i) && flag_before same (k * 64 + i))
-  pair_bits = has_bit_and here before i ∙ ap (λ t. t && has_bit before i) bits ∙ ap (λ t. flag_at marks (k * 64 + i) && t) prior
-
-  pub none_joined : bit_and here before ≡ 0 → has_bit 0 i ≡ is_joined letters same marks (k * 64 + i)
-  none_joined none =
-      ap (λ m. has_bit m i) (sym none) ∙ pair_bits
-      ∙ without (flag_at marks (k * 64 + i) && flag_before same (k * 64 + i)) (is_joining (get_or letters (k * 64 + i) 0))
-      (sym pair_bits ∙ ap (λ m. has_bit m i) none ∙ has_bit_zero i)
-    where
-      without : (t u : Bool) → t ≡ false → t ≡ (t && u)
-      without true u e = absurd cc
-      without false u e = refl
-
-  pub some_joined : (joining : ℕ) → length letters ≡ length marks
-      → (k * 64 + i < length letters → has_bit joining i ≡ is_joining (get_or letters (k * 64 + i) 0))
-      → has_bit (bit_and (bit_and here before) joining) i ≡ is_joined letters same marks (k * 64 + i)
-  some_joined joining long is =
-      has_bit_and (bit_and here before) joining i ∙ ap (λ t. t && has_bit joining i) pair_bits ∙ elim (cases_lt (k * 64 + i) (length letters)) [
-        | inl inside ↦ ap (λ t. (flag_at marks (k * 64 + i) && flag_before same (k * 64 + i)) && t) (is inside)
-        | inr past ↦
-            let none : flag_at marks (k * 64 + i) ≡ false = get_or_past marks (k * 64 + i) false (omega arith) in
-            ap (λ t. (t && flag_before same (k * 64 + i)) && has_bit joining i) none
-            ∙ sym (ap (λ t. (t && flag_before same (k * 64 + i)) && is_joining (get_or letters (k * 64 + i) 0)) none)
-      ]
-
 -- ---- past the end
 
 pub same_past : (text : List ℕ) (marks : List Bool) (n : ℕ) → length marks ≤ n → is_same_as_next text marks n ≡ false
@@ -91,21 +63,39 @@ middle_past same n past = ap (λ t. flag_before same n && t) (get_or_past same n
 pub kept_past : (middle marks : List Bool) (n : ℕ) → length marks ≤ n → (flag_at marks n && not (is_in_separator middle n)) ≡ false
 kept_past middle marks n past = ap (λ t. t && not (is_in_separator middle n)) (get_or_past marks n false past)
 
--- no mark is in a separator where none is in the middle of three
-pub kept_by_none : (marks : List Bool) → kept_by [] marks ≡ marks
-kept_by_none marks = ext_get_or false (kept_by [] marks) marks (length-listed (λ k. flag_at marks k && not (is_in_separator [] k)) (length marks))
-    (λ k within.
-    let inside : k < length marks = omega (arith, length-listed (λ j. flag_at marks j && not (is_in_separator [] j)) (length marks)) in
-    flag_at-listed (λ j. flag_at marks j && not (is_in_separator [] j)) (length marks) k inside
-    ∙ ap (λ t. flag_at marks k && not t) (none k) ∙ and_true (flag_at marks k))
-  where
-    none : (k : ℕ) → is_in_separator [] k ≡ false
-    none zero = refl
-    none (suc k) = refl
+-- ---- place by place
 
-    and_true : (t : Bool) → (t && true) ≡ t
-    and_true true = refl
-    and_true false = refl
+pub same_at : (text : List ℕ) (marks : List Bool) (n : ℕ) → flag_at (same_as_next text marks) n ≡ is_same_as_next text marks n
+same_at text marks n = elim (cases_lt n (length marks)) [
+  | inl inside ↦ flag_at-listed (is_same_as_next text marks) (length marks) n inside
+  | inr past ↦
+      get_or_past (same_as_next text marks) n false (omega (arith, length-listed (is_same_as_next text marks) (length marks)))
+      ∙ sym (same_past text marks n past)
+]
+
+pub middle_at : (same : List Bool) (n : ℕ) → flag_at (middles same) n ≡ is_middle same n
+middle_at same n = elim (cases_lt n (length same)) [
+  | inl inside ↦ flag_at-listed (is_middle same) (length same) n inside
+  | inr past ↦
+      get_or_past (middles same) n false (omega (arith, length-listed (is_middle same) (length same))) ∙ sym (middle_past same n past)
+]
+
+pub kept_at : (middle marks : List Bool) (n : ℕ) → flag_at (kept_by middle marks) n ≡ (flag_at marks n && not (is_in_separator middle n))
+kept_at middle marks n = elim (cases_lt n (length marks)) [
+  | inl inside ↦ flag_at-listed (λ k. flag_at marks k && not (is_in_separator middle k)) (length marks) n inside
+  | inr past ↦
+      get_or_past (kept_by middle marks) n false (omega (arith, length-listed (λ k. flag_at marks k && not (is_in_separator middle k)) (length marks)))
+      ∙ sym (kept_past middle marks n past)
+]
+
+pub joined_at : (letters : List ℕ) (marks : List Bool) (n : ℕ) → flag_at (joined_marks letters marks) n ≡ is_joined letters (same_as_next letters marks) marks n
+joined_at letters marks n = elim (cases_lt n (length marks)) [
+  | inl inside ↦ flag_at-listed (is_joined letters (same_as_next letters marks) marks) (length marks) n inside
+  | inr past ↦
+      get_or_past (joined_marks letters marks) n false
+      (omega (arith, length-listed (is_joined letters (same_as_next letters marks) marks) (length marks)))
+      ∙ sym (joined_past letters (same_as_next letters marks) marks n past)
+]
 
 pub length-kept : (separators : Bool) (bytes : List ℕ) (marks : List Bool)
     → length (if separators then without_separators bytes marks else marks) ≡ length marks
@@ -115,29 +105,13 @@ length-kept false bytes marks = refl
 -- ---- marks that are joined are cells
 
 module _ (letters : List ℕ) (word marks : List Bool) (long : length marks ≡ length word) (apart : (k : ℕ) → (flag_at word k && flag_at marks k) ≡ false) where
-  pub joined_is : (k : ℕ) → flag_at (joined_marks letters marks) k ≡ is_joined letters (same_as_next letters marks) marks k
-  joined_is k = elim (cases_lt k (length marks)) [
-    | inl inside ↦ flag_at-listed (is_joined letters (same_as_next letters marks) marks) (length marks) k inside
-    | inr past ↦
-        get_or_past (joined_marks letters marks) k false (omega (arith, length-listed (is_joined letters (same_as_next letters marks) marks) (length marks)))
-        ∙ sym (joined_past letters (same_as_next letters marks) marks k past)
-  ]
-
-  pub same_is : (k : ℕ) → flag_at (same_as_next letters marks) k ≡ is_same_as_next letters marks k
-  same_is k = elim (cases_lt k (length marks)) [
-    | inl inside ↦ flag_at-listed (is_same_as_next letters marks) (length marks) k inside
-    | inr past ↦
-        get_or_past (same_as_next letters marks) k false (omega (arith, length-listed (is_same_as_next letters marks) (length marks)))
-        ∙ sym (same_past letters marks k past)
-  ]
-
   pub joined_are_cells : AreCells word marks (joined_marks letters marks)
   joined_are_cells = record {
     within = long;
     apart = apart;
-    none_first = joined_is 0 ∙ ap (λ t. t && is_joining (get_or letters 0 0)) (and_false (flag_at marks 0));
-    is_mark = λ k set. (and_parts _ _ (and_parts _ _ (sym (joined_is k) ∙ set)).0).0;
+    none_first = joined_at letters marks 0 ∙ ap (λ t. t && is_joining (get_or letters 0 0)) (and_false (flag_at marks 0));
+    is_mark = λ k set. (and_parts _ _ (and_parts _ _ (sym (joined_at letters marks k) ∙ set)).0).0;
     after_mark = λ k set.
-        let same = (and_parts _ _ (and_parts _ _ (sym (joined_is (suc k)) ∙ set)).0).1 in
-        (and_parts _ _ (and_parts _ _ (sym (same_is k) ∙ same)).0).0;
+        let same = (and_parts _ _ (and_parts _ _ (sym (joined_at letters marks (suc k)) ∙ set)).0).1 in
+        (and_parts _ _ (and_parts _ _ (sym (same_at letters marks k) ∙ same)).0).0;
   }

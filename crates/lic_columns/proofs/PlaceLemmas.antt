@@ -1,7 +1,7 @@
 -- The places of flags that are set, found from the first on.
 use Rattle.std.proofs.Common.{◌≡◌, drop, take, ◌≤◌, ℕ, zero, suc, ◌+◌, ◌*◌, ◌^◌, ◌<◌, Bool, true, false, List, [], ◌∷◌, ◌++◌, get_or, length, set, refl, ap, sym, ◌∙◌, arith, inl, inr, w64, eq-eqb}
 use Rattle.std.proofs.lemmas.Bool.{cases_eq, cases_lt}
-use Rattle.std.proofs.lemmas.List.{ext_get_or, get_or_past, get_or-take, get_or-drop, length-take, length-take-le, get_or-set_same, get_or-set_other, length-set, append_assoc}
+use Rattle.std.proofs.lemmas.List.{ext_get_or, get_or_past, get_or-take, get_or-drop, length-take, length-take-le, get_or-set_same, get_or-set_other, length-set}
 use Rattle.std.proofs.Math.Seq.{take-add}
 use Rattle.std.proofs.lemmas.Nat.Bits.{bit_at-trailing_zeros}
 use Rattle.std.specs.Prelude.{◌==◌}
@@ -68,10 +68,6 @@ module _ (mask : ℕ) (some : 0 < mask) (fits : mask < 2 ^ 64) where
       places_first at (trailing_zeros w64 mask) (bits_of 64 mask) (flag_at-bits_of 64 mask (trailing_zeros w64 mask) t.0 ∙ eq-eqb _ 1 t.1)
       (λ k low. flag_at-bits_of 64 mask k (omega (arith, t.0)) ∙ ap (λ n. n == 1) (t.2 k low))
       ∙ ap (λ l. (at + trailing_zeros w64 mask) ∷ places at l) (sym bits_without)
-
--- one place more is listed
-pub one_more : (listed : List ℕ) (place : ℕ) (rest : List ℕ) → (listed ++ place ∷ []) ++ rest ≡ listed ++ place ∷ rest
-one_more listed place rest = append_assoc listed (place ∷ []) rest
 
 -- ---- the places of a whole text, column by column
 

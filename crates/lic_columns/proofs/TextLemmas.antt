@@ -1,5 +1,5 @@
 -- What is known of the bytes of a text, and its tokens.
-use Rattle.std.proofs.Common.{◌≡◌, ◌↔◌, ℕ, zero, suc, ◌+◌, ◌≤◌, Bool, true, false, not, ◌&&◌, ◌||◌, if◌then◌else◌, List, length, map, get_or, refl, ap, sym, ◌∙◌, inl, inr, ltb, arith, subst}
+use Rattle.std.proofs.Common.{◌≡◌, ◌↔◌, ℕ, zero, suc, ◌+◌, ◌≤◌, Bool, true, false, not, ◌&&◌, ◌||◌, List, length, map, get_or, refl, ap, sym, ◌∙◌, inl, inr, ltb, arith, subst}
 use Rattle.std.proofs.lemmas.Bool.{cases_lt, and_parts, and_from, or_cases, or_left, or_right}
 use Rattle.std.proofs.lemmas.List.{get_or-map, get_or_past, length-map}
 use Rattle.lic_kind.specs.declared.Kind.{Kind}
@@ -10,11 +10,11 @@ use Rattle.lic_columns.specs.Bytes.{is_word, is_mark}
 use Rattle.lic_columns.specs.Masks.{flag_at, flag_before}
 use Rattle.lic_columns.specs.Flags.{cleared, is_within}
 use Rattle.lic_columns.specs.Known.{Known, IsText, known_of, blanked}
-use Rattle.lic_columns.specs.Marks.{is_same_as_next, same_as_next, is_middle, middles, is_in_separator, without_separators, joined_marks}
+use Rattle.lic_columns.specs.Marks.{is_same_as_next, same_as_next, middles, is_in_separator, joined_marks, kept_in}
 use Rattle.lic_columns.specs.Tokens.{kept_marks, text_cells}
-use Rattle.lic_columns.proofs.FlagLemmas.{length-cleared, flag_at-cleared, length-listed, flag_at-listed}
+use Rattle.lic_columns.proofs.FlagLemmas.{length-cleared, flag_at-cleared}
 use Rattle.lic_columns.proofs.KnownLemmas.{HasLength-known_of}
-use Rattle.lic_columns.proofs.MarkLemmas.{same_past, middle_past, length-kept, joined_are_cells}
+use Rattle.lic_columns.proofs.MarkLemmas.{same_at, middle_at, kept_at, length-kept, joined_are_cells}
 
 -- ---- words and marks are apart
 
@@ -52,7 +52,6 @@ IsText-blanked from to n known is = record {
     word = length-cleared from to known.word ∙ is.whole.word;
     mark = length-cleared from to known.mark ∙ is.whole.mark;
     feed = is.whole.feed;
-    high = is.whole.high;
   };
   apart = λ k.
       ap (λ t. t && flag_at (cleared from to known.mark) k) (flag_at-cleared from to known.word k)
@@ -73,47 +72,25 @@ module _ (n : ℕ) (known : Known) (is : IsText n known) (bytes : List ℕ) wher
 
   pub kept_are_apart : (separators : Bool) (k : ℕ) → (flag_at known.word k && flag_at (kept_marks separators bytes known) k) ≡ false
   kept_are_apart false k = is.apart k
-  kept_are_apart true k = elim (cases_lt k (length known.mark)) [
-    | inl inside ↦
-        ap (λ t. flag_at known.word k && t)
-        (flag_at-listed (λ j. flag_at known.mark j && not (is_in_separator (middles (same_as_next bytes known.mark)) j)) (length known.mark) k inside)
-        ∙ kept_apart (flag_at known.word k) (flag_at known.mark k) (not (is_in_separator (middles (same_as_next bytes known.mark)) k)) (is.apart k)
-    | inr past ↦
-        ap (λ t. t && flag_at (kept_marks true bytes known) k)
-        (get_or_past known.word k false (omega (arith, is.whole.word, is.whole.mark)))
-  ]
+  kept_are_apart true k =
+      ap (λ t. flag_at known.word k && t) (kept_at (middles (same_as_next bytes known.mark)) known.mark k)
+      ∙ kept_apart (flag_at known.word k) (flag_at known.mark k) (not (is_in_separator (middles (same_as_next bytes known.mark)) k)) (is.apart k)
 
 -- ---- separators
 
 module _ (bytes : List ℕ) (marks : List Bool) where
-  pub same_at : (k : ℕ) → flag_at (same_as_next bytes marks) k ≡ is_same_as_next bytes marks k
-  same_at k = elim (cases_lt k (length marks)) [
-    | inl inside ↦ flag_at-listed (is_same_as_next bytes marks) (length marks) k inside
-    | inr past ↦
-        get_or_past (same_as_next bytes marks) k false (omega (arith, length-listed (is_same_as_next bytes marks) (length marks)))
-        ∙ sym (same_past bytes marks k past)
-  ]
-
-  pub middle_at : (k : ℕ) → flag_at (middles (same_as_next bytes marks)) k ≡ is_middle (same_as_next bytes marks) k
-  middle_at k = elim (cases_lt k (length (same_as_next bytes marks))) [
-    | inl inside ↦ flag_at-listed (is_middle (same_as_next bytes marks)) (length (same_as_next bytes marks)) k inside
-    | inr past ↦
-        get_or_past (middles (same_as_next bytes marks)) k false (omega (arith, length-listed (is_middle (same_as_next bytes marks)) (length (same_as_next bytes marks))))
-        ∙ sym (middle_past (same_as_next bytes marks) k past)
-  ]
-
   middle_of : (k : ℕ) → flag_at (middles (same_as_next bytes marks)) (suc k) ≡ true
       → (is_same_as_next bytes marks k ≡ true) × (is_same_as_next bytes marks (suc k) ≡ true)
   middle_of k e =
-      let parts = and_parts _ _ (sym (middle_at (suc k)) ∙ e) in
-      (sym (same_at k) ∙ parts.0, sym (same_at (suc k)) ∙ parts.1)
+      let parts = and_parts _ _ (sym (middle_at (same_as_next bytes marks) (suc k)) ∙ e) in
+      (sym (same_at bytes marks k) ∙ parts.0, sym (same_at bytes marks (suc k)) ∙ parts.1)
 
   of_three : (k : ℕ) → is_same_as_next bytes marks k ≡ true → is_same_as_next bytes marks (suc k) ≡ true
       → flag_at (middles (same_as_next bytes marks)) (suc k) ≡ true
-  of_three k one two = middle_at (suc k) ∙ and_from _ _ (same_at k ∙ one) (same_at (suc k) ∙ two)
+  of_three k one two = middle_at (same_as_next bytes marks) (suc k) ∙ and_from _ _ (same_at bytes marks k ∙ one) (same_at bytes marks (suc k) ∙ two)
 
   no_first : flag_at (middles (same_as_next bytes marks)) 0 ≡ true → ⊥
-  no_first e = let f : false ≡ true = sym (middle_at 0) ∙ e in absurd cc
+  no_first e = let f : false ≡ true = sym (middle_at (same_as_next bytes marks) 0) ∙ e in absurd cc
 
   three_from : (k : ℕ) → is_in_separator (middles (same_as_next bytes marks)) k ≡ true → (j : ℕ) × (j ≤ k) × (k ≤ j + 2)
       × (is_same_as_next bytes marks j ≡ true) × (is_same_as_next bytes marks (suc j) ≡ true)
@@ -159,22 +136,16 @@ module _ (bytes : List ℕ) (marks : List Bool) where
 
 -- ---- the cells of a text
 
-module _ (n : ℕ) (known : Known) (is : IsText n known) (separators : Bool) (bytes : List ℕ) (word kept joined : List Bool) (mark : List Bool) (letters : List ℕ)
-    (is_word : word ≡ known.word) (is_mark : mark ≡ known.mark) (is_letters : letters ≡ known.letters)
-    (is_kept : kept ≡ (if separators then without_separators bytes mark else mark)) (is_joined : joined ≡ joined_marks letters kept) where
-  kept_is : kept ≡ kept_marks separators bytes known
-  kept_is = is_kept ∙ ap (λ m. if separators then without_separators bytes m else m) is_mark
+module _ (n : ℕ) (known : Known) (is : IsText n known) (separators : Bool) (bytes : List ℕ) (word mark : List Bool) (letters : List ℕ)
+    (is_word : word ≡ known.word) (is_mark : mark ≡ known.mark) (is_letters : letters ≡ known.letters) where
+  pub text_is : cells_of word (kept_in separators bytes mark) (joined_marks letters (kept_in separators bytes mark)) ≡ text_cells separators bytes known
+  text_is =
+      ap (λ w. cells_of w (kept_in separators bytes mark) (joined_marks letters (kept_in separators bytes mark))) is_word
+      ∙ ap (λ m. cells_of known.word (kept_in separators bytes m) (joined_marks letters (kept_in separators bytes m))) is_mark
+      ∙ ap (λ l. cells_of known.word (kept_marks separators bytes known) (joined_marks l (kept_marks separators bytes known))) is_letters
 
-  joined_is : joined ≡ joined_marks known.letters (kept_marks separators bytes known)
-  joined_is = is_joined ∙ ap (λ l. joined_marks l kept) is_letters ∙ ap (λ k. joined_marks known.letters k) kept_is
-
-  pub text_is : cells_of word kept joined ≡ text_cells separators bytes known
-  text_is = ap (λ w. cells_of w kept joined) is_word ∙ ap (λ k. cells_of known.word k joined) kept_is
-      ∙ ap (λ j. cells_of known.word (kept_marks separators bytes known) j) joined_is
-
-  pub text_has_cells : AreCells word kept joined
+  pub text_has_cells : AreCells word (kept_in separators bytes mark) (joined_marks letters (kept_in separators bytes mark))
   text_has_cells =
-      let are : AreCells known.word (kept_marks separators bytes known) (joined_marks known.letters (kept_marks separators bytes known)) =
-      joined_are_cells known.letters known.word (kept_marks separators bytes known) (kept_length n known is bytes separators) (kept_are_apart n known is bytes separators) in
-      subst (λ w. AreCells w kept joined) (sym is_word) (subst (λ k. AreCells known.word k joined) (sym kept_is)
-      (subst (λ j. AreCells known.word (kept_marks separators bytes known) j) (sym joined_is) are))
+      subst (λ w. AreCells w (kept_in separators bytes mark) (joined_marks letters (kept_in separators bytes mark))) (sym is_word)
+      (subst (λ m. AreCells known.word (kept_in separators bytes m) (joined_marks letters (kept_in separators bytes m))) (sym is_mark)
+      (joined_are_cells letters known.word (kept_marks separators bytes known) (kept_length n known is bytes separators) (kept_are_apart n known is bytes separators)))

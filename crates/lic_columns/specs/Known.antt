@@ -1,6 +1,6 @@
 -- What is known of the bytes of a text, place by place.
 use Rattle.std.specs.Prelude.{◌≡◌, ℕ, Bool, false, ◌&&◌, ◌||◌, List, map, length, ◌++◌}
-use Rattle.lic_columns.specs.Bytes.{letter, is_word, is_mark, is_feed, is_high}
+use Rattle.lic_columns.specs.Bytes.{letter, is_word, is_mark, is_feed}
 use Rattle.lic_columns.specs.Flags.{cleared}
 use Rattle.lic_columns.specs.Masks.{flag_at}
 
@@ -10,7 +10,6 @@ pub record Known : Type 0 where
   pub word : List Bool
   pub mark : List Bool
   pub feed : List Bool
-  pub high : List Bool
 
 -- something is known of so many bytes
 pub record HasLength (n : ℕ) (known : Known) : Type 0 where
@@ -18,7 +17,6 @@ pub record HasLength (n : ℕ) (known : Known) : Type 0 where
   pub word : length known.word ≡ n
   pub mark : length known.mark ≡ n
   pub feed : length known.feed ≡ n
-  pub high : length known.high ≡ n
 
 -- something is known of so many bytes, and none is a word character and a mark
 pub record IsText (n : ℕ) (known : Known) : Type 0 where
@@ -32,7 +30,6 @@ known_of bytes = record {
   word = map is_word bytes;
   mark = map is_mark bytes;
   feed = map is_feed bytes;
-  high = map is_high bytes;
 }
 
 -- the one text, and then the other
@@ -42,7 +39,6 @@ followed_by one two = record {
   word = one.word ++ two.word;
   mark = one.mark ++ two.mark;
   feed = one.feed ++ two.feed;
-  high = one.high ++ two.high;
 }
 
 -- the bytes of a range count as blanks

@@ -6,6 +6,7 @@ pub mod Places
 pub mod Known
 pub mod Cells
 pub mod Marks
+pub mod Carried
 pub mod Tokens
 pub mod SpanTokens
 pub mod Edges

@@ -1,5 +1,5 @@
 -- Streaks of marks by their flags: separators go, quotes and dashes are joined.
-use Rattle.std.specs.Prelude.{ℕ, suc, Bool, not, ◌&&◌, ◌||◌, ◌==◌, List, map, length, slice_index}
+use Rattle.std.specs.Prelude.{ℕ, suc, Bool, not, ◌&&◌, ◌||◌, ◌==◌, if◌then◌else◌, List, map, length, slice_index}
 use Rattle.std.specs.List.{range_with_len}
 use Rattle.lic_columns.specs.Masks.{flag_at, flag_before}
 
@@ -28,6 +28,10 @@ kept_by middle marks = map (λ k. flag_at marks k && not (is_in_separator middle
 -- the marks of a text without its separators: three or more of one same mark
 abbrev pub without_separators : List ℕ → List Bool → List Bool
 without_separators bytes marks = kept_by (middles (same_as_next bytes marks)) marks
+
+-- the marks that are in no separator, where separators are taken out, and else all
+abbrev pub kept_in : Bool → List ℕ → List Bool → List Bool
+kept_in separators bytes marks = if separators then without_separators bytes marks else marks
 
 -- the letter of quotes, or of dashes
 abbrev pub is_joining : ℕ → Bool

@@ -1,5 +1,5 @@
 -- Masks: numbers that are read bit by bit.
-use Rattle.std.specs.Prelude.{◌≡◌, ℕ, zero, suc, Bool, false, ◌==◌, List, slice_index_or}
+use Rattle.std.specs.Prelude.{◌≡◌, ℕ, zero, suc, ◌+◌, ◌*◌, ◌<◌, Bool, false, ◌==◌, List, slice_index_or}
 use Rattle.std.specs.Int.{bit_at}
 
 -- whether bit k of the mask is set
@@ -18,3 +18,11 @@ flag_before flags (suc k) = flag_at flags k
 -- bit k of the mask is set exactly if flag k is
 pub record IsMask (mask : ℕ) (flags : List Bool) : Type 0 where
   pub bit : (k : ℕ) → has_bit mask k ≡ flag_at flags k
+
+-- bit i of the mask is flag k * 64 + i
+pub record IsColumn (mask : ℕ) (flags : List Bool) (k : ℕ) : Type 0 where
+  pub bit : (i : ℕ) → i < 64 → has_bit mask i ≡ flag_at flags (k * 64 + i)
+
+-- the highest bit of the mask is the flag before column k
+pub record EndsBefore (mask : ℕ) (flags : List Bool) (k : ℕ) : Type 0 where
+  pub last : has_bit mask 63 ≡ flag_before flags (k * 64)

@@ -1,12 +1,12 @@
 -- The tokens of a text, by what is known of its bytes.
-use Rattle.std.specs.Prelude.{ℕ, Bool, if◌then◌else◌, List}
+use Rattle.std.specs.Prelude.{ℕ, Bool, List}
 use Rattle.lic_columns.specs.Cells.{Cell, cells_of, Span, spans}
 use Rattle.lic_columns.specs.Known.{Known}
-use Rattle.lic_columns.specs.Marks.{without_separators, joined_marks}
+use Rattle.lic_columns.specs.Marks.{kept_in, joined_marks}
 
--- the marks that are in no separator, where separators are taken out, and else all
+-- the marks of a text that are kept
 abbrev pub kept_marks : Bool → List ℕ → Known → List Bool
-kept_marks separators bytes known = if separators then without_separators bytes known.mark else known.mark
+kept_marks separators bytes known = kept_in separators bytes known.mark
 
 -- what is at each place once separators are taken out, and quotes and dashes joined
 abbrev pub text_cells : Bool → List ℕ → Known → List Cell

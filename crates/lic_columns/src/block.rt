@@ -1,7 +1,7 @@
 //! What 64 bytes say by themselves, by lanes.
-ghost use Rattle.std.specs.Prelude.{◌≡◌, ℕ, suc, ◌+◌, ◌-◌, ◌<◌, ◌≤◌, ◌++◌, length, replicate, slice_index, map, ◌==◌, nat_le, if◌then◌else◌};
+ghost use Rattle.std.specs.Prelude.{◌≡◌, ℕ, suc, ◌+◌, ◌-◌, ◌*◌, ◌<◌, ◌≤◌, ◌++◌, length, replicate, slice_index, map, ◌==◌, nat_le, if◌then◌else◌};
 ghost use Rattle.std.specs.Char.{to_ascii_lowercase};
-ghost use Rattle.lic_columns.specs.Bytes.{is_word, is_mark, is_feed, is_high, letter};
+ghost use Rattle.lic_columns.specs.Bytes.{is_word, is_mark, is_feed, letter};
 ghost use Rattle.lic_columns.specs.Classes.{class_by_low, class_by_high, class_of};
 ghost use Rattle.lic_columns.specs.Masks.{IsMask, has_bit};
 ghost use Rattle.lic_columns.specs.Marks.{is_joining};
@@ -37,9 +37,6 @@ const WORD: u8 = 0;
 // The least class of marks. Those below are of words and of white space.
 const LEAST_MARK: u8 = 3;
 
-// The least byte beyond ASCII.
-const BEYOND_ASCII: u8 = 128;
-
 // How many letters ASCII has.
 const LETTERS: u8 = 26;
 
@@ -53,7 +50,6 @@ pub struct Block {
     pub word: u64,
     pub mark: u64,
     pub feed: u64,
-    pub high: u64,
 }
 
 #[inline(always)]
@@ -128,7 +124,6 @@ pub fn read_block(bytes: u8x64) -> Block
     ensures word { IsMask result.word (map is_word bytes) }
     ensures mark { IsMask result.mark (map is_mark bytes) }
     ensures feed { IsMask result.feed (map is_feed bytes) }
-    ensures high { IsMask result.high (map is_high bytes) }
 {
     let classes = classes(bytes);
     Block {
@@ -136,7 +131,6 @@ pub fn read_block(bytes: u8x64) -> Block
         word: places_of(WORD, classes),
         mark: places_from(LEAST_MARK, classes),
         feed: places_of(b'\n', bytes),
-        high: places_from(BEYOND_ASCII, bytes),
     }
 }
 
@@ -165,23 +159,24 @@ fn load(bytes: &[u8], at: usize) -> u8x64
     }
 }
 
-/// At which of 64 places from this one on a byte is the same as the next.
+/// At which of the 64 places from 64 * k on a byte is the same as the next.
 #[inline(always)]
-pub(crate) fn same_places(bytes: &[u8], at: usize) -> u64
-    requires { at < length bytes.now }
-    ensures { (i : ℕ) → i < 64 → at + suc i < length bytes.now
-        → has_bit result i ≡ (slice_index bytes.now (at + i) == slice_index bytes.now (at + suc i)) }
+pub(crate) fn same_places(bytes: &[u8], k: usize) -> u64
+    requires { k * 64 < length bytes.now }
+    ensures { (i : ℕ) → i < 64 → k * 64 + suc i < length bytes.now
+        → has_bit result i ≡ (slice_index bytes.now (k * 64 + i) == slice_index bytes.now (k * 64 + suc i)) }
 {
+    let at = k * SIZE;
     load(bytes, at).simd_eq(load(bytes, at + 1)).to_bitmask()
 }
 
-/// At which of the 64 places from this one on the letter of quotes or of dashes is.
+/// At which of the 64 places from 64 * k on the letter of quotes or of dashes is.
 #[inline(always)]
-pub(crate) fn joining_places(letters: &[u8], at: usize) -> u64
-    requires { at ≤ length letters.now }
-    ensures { (i : ℕ) → i < 64 → at + i < length letters.now
-        → has_bit result i ≡ is_joining (slice_index letters.now (at + i)) }
+pub(crate) fn joining_places(letters: &[u8], k: usize) -> u64
+    requires { k * 64 < length letters.now }
+    ensures { (i : ℕ) → i < 64 → k * 64 + i < length letters.now
+        → has_bit result i ≡ is_joining (slice_index letters.now (k * 64 + i)) }
 {
-    let lanes = load(letters, at);
+    let lanes = load(letters, k * SIZE);
     places_of(b'\'', lanes) | places_of(b'-', lanes)
 }

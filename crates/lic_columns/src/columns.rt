@@ -19,7 +19,6 @@ pub struct Columns {
     word: Flags,
     mark: Flags,
     feed: Flags,
-    high: Flags,
 }
 
 impl Model for Columns {
@@ -27,7 +26,7 @@ impl Model for Columns {
 
     ghost Value = { Known };
 
-    ghost view = { λ c. record { letters = c.letters.items; word = c.word; mark = c.mark; feed = c.feed; high = c.high } };
+    ghost view = { λ c. record { letters = c.letters.items; word = c.word; mark = c.mark; feed = c.feed } };
 }
 
 impl Columns {
@@ -40,7 +39,6 @@ impl Columns {
             word: Flags::new(alloc),
             mark: Flags::new(alloc),
             feed: Flags::new(alloc),
-            high: Flags::new(alloc),
         }
     }
 
@@ -104,7 +102,6 @@ impl Columns {
         self.word.start(len)?;
         self.mark.start(len)?;
         self.feed.start(len)?;
-        self.high.start(len)?;
         Ok(())
     }
 
@@ -125,7 +122,6 @@ impl Columns {
         self.word.push(block.word, count)?;
         self.mark.push(block.mark, count)?;
         self.feed.push(block.feed, count)?;
-        self.high.push(block.high, count)?;
         Ok(())
     }
 
@@ -143,17 +139,6 @@ impl Columns {
             Some(feed) => feed + 1,
             None => self.feed.len(),
         }
-    }
-
-    /// The first byte of the range that is a part of a character beyond ASCII.
-    #[inline]
-    pub fn first_high(&self, from: usize, to: usize) -> Option<usize>
-        requires { from ≤ to }
-        ensures found { IfSome result (λ at. (from ≤ at) × (at < to) × (flag_at self.now.high at ≡ true)
-            × ((k : ℕ) → from ≤ k → k < at → flag_at self.now.high k ≡ false)) }
-        ensures none { IfNone result ((k : ℕ) → from ≤ k → k < to → flag_at self.now.high k ≡ false) }
-    {
-        first_set(&self.high, from, to)
     }
 
     /// Takes the bytes of a range away: they count as blanks.

@@ -1,10 +1,10 @@
 //! Lists of flags.
-ghost use Rattle.std.specs.Prelude.{◌≡◌, ℕ, Bool, List, suc, ◌+◌, ◌-◌, ◌/◌, take, false, ◌*◌, ◌%◌, ◌^◌, ◌≤◌, ◌<◌, [], ◌++◌, length, IfOk};
-ghost use Rattle.lic_columns.specs.Masks.{has_bit, flag_at, flag_before};
+ghost use Rattle.std.specs.Prelude.{◌≡◌, ℕ, suc, ◌+◌, ◌/◌, ◌*◌, ◌%◌, ◌^◌, ◌≤◌, ◌<◌, [], ◌++◌, length, IfOk};
+ghost use Rattle.lic_columns.specs.Masks.{has_bit, flag_at};
 ghost use Rattle.lic_columns.specs.Flags.{bits_of, cleared};
 
 use crate::block::SIZE;
-use crate::mask::{moved_down, moved_up, without};
+use crate::mask::{moved_down, without};
 use std::alloc::{AllocError, Global};
 use std::marker::Model;
 
@@ -85,24 +85,6 @@ impl Flags {
         self.columns.len()
     }
 
-    /// Adds the next 64 of `len` flags, or as many as are left of them.
-    ///
-    /// # Errors
-    /// Memory ran out.
-    #[inline(always)]
-    pub fn push_column(&mut self, mask: u64, len: usize) -> Result<(), AllocError>
-        requires whole { length self.old % 64 ≡ 0 }
-        requires room { length self.old < len }
-        requires below { (i : ℕ) → len - length self.old ≤ i → i < 64 → has_bit mask i ≡ false }
-        ensures { IfOk result (λ _. (all : List Bool) → length all ≡ len
-            → ((i : ℕ) → i < 64 → length self.old + i < len → has_bit mask i ≡ flag_at all (length self.old + i))
-            → self.old ≡ take (length self.old) all → self.new ≡ take (length self.old + 64) all) }
-    {
-        let count = (len - self.len).min(SIZE);
-        self.push(mask, count)?;
-        Ok(())
-    }
-
     /// The 64 flags from place 64 * k on, as a mask.
     #[inline(always)]
     pub fn column(&self, k: usize) -> u64
@@ -115,15 +97,6 @@ impl Flags {
         }
     }
 
-    /// The flags before each of the 64 places from 64 * k on, as a mask.
-    #[inline(always)]
-    pub fn column_before(&self, k: usize) -> u64
-        ensures { (i : ℕ) → i < 64 → has_bit result i ≡ flag_before self.now (k * 64 + i) }
-    {
-        let before = if k > 0 { self.column(k - 1) } else { 0 };
-        moved_up(before, self.column(k))
-    }
-
     /// The flags after each of the 64 places from 64 * k on, as a mask.
     #[inline(always)]
     pub fn column_after(&self, k: usize) -> u64
@@ -131,14 +104,6 @@ impl Flags {
         ensures { (i : ℕ) → i < 64 → has_bit result i ≡ flag_at self.now (suc (k * 64 + i)) }
     {
         moved_down(self.column(k), self.column(k + 1))
-    }
-
-    /// Whether the flag at a place is set.
-    #[inline(always)]
-    pub fn get(&self, at: usize) -> bool
-        ensures { result ≡ flag_at self.now at }
-    {
-        self.column(at / SIZE) >> (at % SIZE) & 1 == 1
     }
 
     /// Takes the flags of a range away.

@@ -10,6 +10,7 @@ pub mod laws;
 mod lines;
 mod marks;
 mod mask;
+mod places;
 #[cfg(test)]
 mod tests;
 mod tokens;

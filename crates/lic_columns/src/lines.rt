@@ -13,27 +13,23 @@ ghost use Rattle.lic_columns.specs.Tokens.{text_spans};
 
 use crate::columns::Columns;
 use crate::edges::clear_lines;
-use crate::marks::Marks;
-use crate::tokens::push_tokens;
+use crate::places::Places;
+use crate::tokens::list_tokens;
 use lic_lines::Rules;
 use lic_trim::SourceChar;
 use std::alloc::{AllocError, Global};
 use std::marker::Model;
 use std::str::from_utf8;
 
-/// Room is made for a token in so many bytes.
-const BYTES_OF_A_TOKEN: usize = 4;
-
 /// The tokens of lines of ASCII, read 64 bytes at a time. What it holds from one text to the next is room alone.
 #[derive(Drop)]
 pub struct Lines {
     columns: Columns,
-    marks: Marks,
     /// The characters of a line.
     characters: Vec<SourceChar>,
     letters: String,
-    starts: Vec<u32>,
-    ends: Vec<u32>,
+    starts: Places,
+    ends: Places,
 }
 
 impl Model for Lines {
@@ -42,7 +38,7 @@ impl Model for Lines {
 
     ghost Value = { TokenPlaces };
 
-    ghost view = { λ l. record { letters = string_bytes l.letters; starts = l.starts.items; ends = l.ends.items } };
+    ghost view = { λ l. record { letters = string_bytes l.letters; starts = l.starts; ends = l.ends } };
 }
 
 /// Bytes of ASCII as a text.
@@ -67,28 +63,6 @@ fn put_letters(text: &mut String, bytes: &[u8]) -> Result<(), AllocError>
     Ok(())
 }
 
-/// Puts the places where the tokens of a text begin and end in the place of those that are there.
-fn put_spans(
-    separators: bool,
-    at: u32,
-    bytes: &[u8],
-    columns: &Columns,
-    marks: &mut Marks,
-    starts: &mut Vec<u32>,
-    ends: &mut Vec<u32>,
-) -> Result<(), AllocError>
-    requires fits { at + length bytes.now + 65 ≤ 2 ^ 32 }
-    requires text { IsText (length bytes.now) columns.now }
-    ensures starts { OnOk result (starts.new.items ≡ starts_of (text_spans separators at bytes.now columns.now)) }
-    ensures ends { OnOk result (ends.new.items ≡ ends_of (text_spans separators at bytes.now columns.now)) }
-{
-    starts.clear();
-    ends.clear();
-    starts.reserve(bytes.len() / BYTES_OF_A_TOKEN)?;
-    ends.reserve(bytes.len() / BYTES_OF_A_TOKEN)?;
-    push_tokens(separators, at, bytes, columns, marks, starts, ends)
-}
-
 impl Lines {
     /// Room that takes no memory yet.
     pub fn new(alloc: Global) -> Lines
@@ -96,11 +70,10 @@ impl Lines {
     {
         Lines {
             columns: Columns::new(alloc),
-            marks: Marks::new(alloc),
             characters: Vec::new(alloc),
             letters: String::new(alloc),
-            starts: Vec::new(alloc),
-            ends: Vec::new(alloc),
+            starts: Places::new(alloc),
+            ends: Places::new(alloc),
         }
     }
 
@@ -117,7 +90,7 @@ impl Lines {
     pub fn starts(&self) -> &[u32]
         ensures { result.now ≡ self.now.starts }
     {
-        &self.starts
+        self.starts.as_slice()
     }
 
     /// The place after each token.
@@ -125,7 +98,7 @@ impl Lines {
     pub fn ends(&self) -> &[u32]
         ensures { result.now ≡ self.now.ends }
     {
-        &self.ends
+        self.ends.as_slice()
     }
 
     /// Reads a text of ASCII that begins at this place, whole lines, by these line rules: its first tokens.
@@ -156,12 +129,11 @@ impl Lines {
         let bytes = text.as_bytes();
         self.columns.read(bytes)?;
         clear_lines(alloc, rules, bytes, &mut self.columns, &mut self.characters)?;
-        put_spans(
+        list_tokens(
             rules.separators(),
             at,
             bytes,
             &self.columns,
-            &mut self.marks,
             &mut self.starts,
             &mut self.ends,
         )?;

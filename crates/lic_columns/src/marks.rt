@@ -1,152 +1,144 @@
-//! Streaks of marks: separators go, quotes and dashes are joined.
-ghost use Rattle.std.specs.Prelude.{◌≡◌, ℕ, ◌+◌, ◌*◌, ◌<◌, [], length, IfOk, if◌then◌else◌};
-ghost use Rattle.lic_columns.specs.Masks.{has_bit};
-ghost use Rattle.lic_columns.specs.Marks.{is_same_as_next, same_as_next, is_middle, middles, kept_by, without_separators, is_joined, joined_by, joined_marks};
+//! Streaks of marks, column by column: separators go, quotes and dashes are joined.
+ghost use Rattle.std.specs.Prelude.{◌≡◌, ℕ, Bool, List, true, ◌+◌, ◌*◌, ◌^◌, ◌<◌, ◌≤◌, ◌&&◌, length, map, slice_index, if◌then◌else◌};
+ghost use Rattle.lic_columns.specs.Bytes.{letter};
+ghost use Rattle.lic_columns.specs.Carried.{AreCarried};
+ghost use Rattle.lic_columns.specs.Masks.{EndsBefore, IsColumn, has_bit};
+ghost use Rattle.lic_columns.specs.Marks.{same_as_next, middles, is_joining, kept_by, kept_in, joined_marks};
 
-use crate::block::{SIZE, joining_places, same_places};
+use crate::block::{joining_places, same_places};
 use crate::flags::Flags;
-use crate::mask::but_not;
-use std::alloc::{AllocError, Global};
+use crate::mask::{but_not, moved_down, moved_up};
 
-/// The marks of a text without its separators, and which of them are joined to the one before.
-#[derive(Drop, Debug)]
-pub struct Marks {
-    same: Flags,
-    middle: Flags,
-    pub kept: Flags,
-    pub joined: Flags,
+/// Which marks of a column are the same as the next, and which have its letter.
+#[derive(Drop, Clone, Copy)]
+pub struct Pairs {
+    pub same: u64,
+    pub alike: u64,
 }
 
-/// At which places of column k a mark is the same in the text as the next.
-#[inline(always)]
-fn same_mask(text: &[u8], marks: &Flags, k: usize) -> u64
-    requires long { length text.now ≡ length marks.now }
-    requires within { k * 64 < length marks.now }
-    ensures { (i : ℕ) → i < 64 → has_bit result i ≡ is_same_as_next text.now marks.now (k * 64 + i) }
-{
-    let both = marks.column(k) & marks.column_after(k);
-    if both == 0 {
-        return 0;
-    }
-    both & same_places(text, k * SIZE)
-}
-
-fn list_same(row: &mut Flags, text: &[u8], marks: &Flags) -> Result<(), AllocError>
-    requires { length text.now ≡ length marks.now }
-    ensures { IfOk result (λ _. row.new ≡ same_as_next text.now marks.now) }
-{
-    row.start(marks.len())?;
-    for k in 0..marks.count() {
-        let mask = same_mask(text, marks, k);
-        row.push_column(mask, marks.len())?;
-    }
-    Ok(())
-}
-
-fn list_middles(row: &mut Flags, same: &Flags) -> Result<(), AllocError>
-    ensures { IfOk result (λ _. row.new ≡ middles same.now) }
-{
-    row.start(same.len())?;
-    for k in 0..same.count() {
-        let mask = same.column_before(k) & same.column(k);
-        row.push_column(mask, same.len())?;
-    }
-    Ok(())
-}
-
-/// Takes the marks out that are in a separator, given the middle ones of three.
-fn list_kept(row: &mut Flags, marks: &Flags, middle: &Flags) -> Result<(), AllocError>
-    ensures { IfOk result (λ _. row.new ≡ kept_by middle.now marks.now) }
-{
-    row.start(marks.len())?;
-    for k in 0..marks.count() {
-        let beside = middle.column_before(k) | middle.column_after(k);
-        let mask = but_not(marks.column(k), middle.column(k) | beside);
-        row.push_column(mask, marks.len())?;
-    }
-    Ok(())
-}
-
-/// At which places of column k a mark is joined to the one before, given which have the letter of the next.
-#[inline(always)]
-fn joined_mask(letters: &[u8], marks: &Flags, same: &Flags, k: usize) -> u64
-    requires long { length letters.now ≡ length marks.now }
-    requires within { k * 64 < length marks.now }
-    ensures { (i : ℕ) → i < 64 → has_bit result i ≡ is_joined letters.now same.now marks.now (k * 64 + i) }
-{
-    let both = marks.column(k) & same.column_before(k);
-    if both == 0 {
-        return 0;
-    }
-    both & joining_places(letters, k * SIZE)
-}
-
-fn list_joined(
-    row: &mut Flags,
-    letters: &[u8],
-    marks: &Flags,
-    same: &Flags,
-) -> Result<(), AllocError>
-    requires { length letters.now ≡ length marks.now }
-    ensures { IfOk result (λ _. row.new ≡ joined_by same.now letters.now marks.now) }
-{
-    row.start(marks.len())?;
-    for k in 0..marks.count() {
-        let mask = joined_mask(letters, marks, same, k);
-        row.push_column(mask, marks.len())?;
-    }
-    Ok(())
-}
-
-impl Marks {
-    /// The marks of an empty text.
-    pub fn new(alloc: Global) -> Marks
-        ensures kept { result.kept ≡ [] }
-        ensures joined { result.joined ≡ [] }
+impl Pairs {
+    /// Those of column k.
+    #[inline(always)]
+    fn of_column(bytes: &[u8], letters: &[u8], marks: &Flags, k: usize) -> Pairs
+        requires long { length bytes.now ≡ length marks.now }
+        requires letters { letters.now ≡ map letter bytes.now }
+        requires more { k + 1 < 2 ^ 64 }
+        ensures same { IsColumn result.same (same_as_next bytes.now marks.now) k }
+        ensures alike { IsColumn result.alike (same_as_next letters.now marks.now) k }
     {
-        Marks {
-            same: Flags::new(alloc),
-            middle: Flags::new(alloc),
-            kept: Flags::new(alloc),
-            joined: Flags::new(alloc),
+        let both = marks.column(k) & marks.column_after(k);
+        if both == 0 {
+            return Pairs { same: 0, alike: 0 };
+        }
+        let alike = both & same_places(letters, k);
+        if alike == 0 {
+            return Pairs { same: 0, alike: 0 };
+        }
+        let same = alike & same_places(bytes, k);
+        Pairs { same, alike }
+    }
+}
+
+/// Which of the places of column k have the letter of quotes or of dashes.
+#[inline(always)]
+fn joining(places: u64, letters: &[u8], k: usize) -> u64
+    requires { (i : ℕ) → i < 64 → has_bit places i ≡ true → k * 64 + i < length letters.now }
+    ensures { (i : ℕ) → i < 64
+        → has_bit result i ≡ (has_bit places i && is_joining (slice_index letters.now (k * 64 + i))) }
+{
+    if places == 0 {
+        return 0;
+    }
+    places & joining_places(letters, k)
+}
+
+/// The marks of a column without separators, and those of them that are joined to the one before.
+#[derive(Drop, Clone, Copy)]
+pub struct Kept {
+    pub kept: u64,
+    pub joined: u64,
+}
+
+/// Which marks of a column are the middle ones of three same ones, by which are the same as the next; of those of the column before the
+/// last place alone has an effect.
+#[inline(always)]
+fn middles_of(before: u64, same: u64) -> u64
+    ensures { (flags : List Bool) (k : ℕ) → EndsBefore before flags k → IsColumn same flags k → IsColumn result (middles flags) k }
+{
+    moved_up(before, same) & same
+}
+
+/// The marks of a column that are kept: without those in a separator, where separators are taken out. Which marks are the middle ones of three
+/// same ones is given for the column, the one before and the one after.
+#[inline(always)]
+fn kept_of(separators: bool, mark: u64, before: u64, middle: u64, after: u64) -> u64
+    ensures { (flags marks : List Bool) (k : ℕ) → EndsBefore before flags k → IsColumn middle flags k → IsColumn after flags (k + 1)
+        → IsColumn mark marks k → IsColumn result (if separators then kept_by flags marks else marks) k }
+{
+    if separators {
+        let beside = moved_up(before, middle) | moved_down(middle, after);
+        but_not(mark, middle | beside)
+    } else {
+        mark
+    }
+}
+
+/// What is carried to a column: its pairs and which of its marks are the middle ones of three, and of the column before, of which the last
+/// place alone has an effect, the middle ones of three, and the kept marks that have the letter of the next.
+#[derive(Drop, Clone, Copy)]
+pub struct Carried {
+    pub pairs: Pairs,
+    pub middle: u64,
+    pub middle_before: u64,
+    pub close_before: u64,
+}
+
+impl Carried {
+    /// What is carried to column 0.
+    pub fn start(separators: bool, bytes: &[u8], letters: &[u8], marks: &Flags) -> Carried
+        requires long { length bytes.now ≡ length marks.now }
+        requires letters { letters.now ≡ map letter bytes.now }
+        ensures { AreCarried separators bytes.now letters.now marks.now 0 result }
+    {
+        let pairs = Pairs::of_column(bytes, letters, marks, 0);
+        Carried {
+            pairs,
+            middle: middles_of(0, pairs.same),
+            middle_before: 0,
+            close_before: 0,
         }
     }
 
-    /// Takes the separators of a text out.
-    fn keep(&mut self, separators: bool, bytes: &[u8], marks: &Flags) -> Result<(), AllocError>
-        requires { length bytes.now ≡ length marks.now }
-        ensures { IfOk result (λ _. self.new.kept
-            ≡ (if separators then without_separators bytes.now marks.now else marks.now)) }
-    {
-        self.middle.start(0)?;
-        if separators {
-            list_same(&mut self.same, bytes, marks)?;
-            list_middles(&mut self.middle, &self.same)?;
-        }
-        list_kept(&mut self.kept, marks, &self.middle)?;
-        Ok(())
-    }
-
-    /// Joins the marks of a text, given its bytes and their letters.
-    ///
-    /// # Errors
-    /// Memory ran out. What it then holds is not said.
-    pub fn read(
+    /// The marks of column k. What is carried is then what is carried to the next column.
+    #[inline(always)]
+    pub fn next(
         &mut self,
         separators: bool,
         bytes: &[u8],
         letters: &[u8],
         marks: &Flags,
-    ) -> Result<(), AllocError>
-        requires bytes { length bytes.now ≡ length marks.now }
-        requires letters { length letters.now ≡ length marks.now }
-        ensures kept { IfOk result (λ _. self.new.kept
-            ≡ (if separators then without_separators bytes.now marks.now else marks.now)) }
-        ensures joined { IfOk result (λ _. self.new.joined ≡ joined_marks letters.now self.new.kept) }
+        k: usize,
+    ) -> Kept
+        requires long { length bytes.now ≡ length marks.now }
+        requires letters { letters.now ≡ map letter bytes.now }
+        requires more { k + 2 < 2 ^ 64 }
+        requires carried { AreCarried separators bytes.now letters.now marks.now k self.old }
+        ensures kept { IsColumn result.kept (kept_in separators bytes.now marks.now) k }
+        ensures joined { IsColumn result.joined (joined_marks letters.now (kept_in separators bytes.now marks.now)) k }
+        ensures carried { AreCarried separators bytes.now letters.now marks.now (k + 1) self.new }
     {
-        self.keep(separators, bytes, marks)?;
-        list_same(&mut self.same, letters, &self.kept)?;
-        list_joined(&mut self.joined, letters, &self.kept, &self.same)?;
-        Ok(())
+        let pairs = Pairs::of_column(bytes, letters, marks, k + 1);
+        let after = middles_of(self.pairs.same, pairs.same);
+        let mark = marks.column(k);
+        let kept = kept_of(separators, mark, self.middle_before, self.middle, after);
+        let close = self.pairs.alike & kept;
+        let joined = joining(kept & moved_up(self.close_before, close), letters, k);
+        *self = Carried {
+            pairs,
+            middle: after,
+            middle_before: self.middle,
+            close_before: close,
+        };
+        Kept { kept, joined }
     }
 }

@@ -4,8 +4,6 @@ ghost use Rattle.lic_columns.specs.Masks.{has_bit};
 ghost use Rattle.lic_columns.specs.Flags.{bits_of, is_within};
 ghost use Rattle.lic_columns.specs.Places.{places};
 
-use std::alloc::AllocError;
-
 // How many bits a mask has.
 const BITS: usize = 64;
 
@@ -55,21 +53,4 @@ pub fn but_not(mask: u64, other: u64) -> u64
     ensures { (k : ℕ) → k < 64 → has_bit result k ≡ (has_bit mask k && not (has_bit other k)) }
 {
     mask & !other
-}
-
-/// Adds the places of the bits of a mask, in rising order; bit 0 is at this place.
-///
-/// # Errors
-/// Memory ran out.
-pub fn push_places(at: u32, mask: u64, out: &mut Vec<u32>) -> Result<(), AllocError>
-    requires { at + 64 ≤ 2 ^ 32 }
-    ensures { IfOk result (λ _. out.new.items ≡ out.old.items ++ places at (bits_of 64 mask)) }
-{
-    let mut rest = mask;
-    while rest != 0 {
-        let bit = rest.trailing_zeros();
-        out.push(at + bit)?;
-        rest &= rest - 1;
-    }
-    Ok(())
 }

@@ -6,8 +6,8 @@ use crate::columns::Columns;
 use crate::first_tokens::push_span_tokens;
 use crate::laws::bytes_are_a_text;
 use crate::lines::Lines;
-use crate::marks::Marks;
-use crate::tokens::push_tokens;
+use crate::places::Places;
+use crate::tokens::list_tokens;
 use lic_lines::Rules;
 use std::alloc::Global;
 use std::fmt::Write;
@@ -20,19 +20,10 @@ fn spans_of(alloc: Global, separators: bool, text: &[u8]) -> Result<String, Fail
     let mut columns = Columns::new(alloc);
     columns.read(text)?;
     bytes_are_a_text();
-    let mut marks = Marks::new(alloc);
-    let (mut starts, mut ends) = (Vec::new(alloc), Vec::new(alloc));
-    push_tokens(
-        separators,
-        0,
-        text,
-        &columns,
-        &mut marks,
-        &mut starts,
-        &mut ends,
-    )?;
+    let (mut starts, mut ends) = (Places::new(alloc), Places::new(alloc));
+    list_tokens(separators, 0, text, &columns, &mut starts, &mut ends)?;
     let mut shown = String::new(alloc);
-    for (start, end) in starts.iter().zip(ends.iter()) {
+    for (start, end) in starts.as_slice().iter().zip(ends.as_slice()) {
         write!(shown, "{start}-{end} ")?;
     }
     Ok(shown)

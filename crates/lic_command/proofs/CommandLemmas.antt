@@ -29,7 +29,7 @@ use Rattle.lic_command.specs.Commands.HasEnded.{helped, stopped}
 use Rattle.lic_command.specs.Lines.{AreWritten}
 use Rattle.lic_command.specs.Outcomes.{CountsStops, StopsForWrites}
 use Rattle.lic_command.specs.Statuses.{IsStatus, IsStatusOfCheck}
-use Rattle.lic_command.specs.Telling.{AreTold, IsStopTold}
+use Rattle.lic_command.specs.Reporting.{AreReported, IsStopReported}
 use Rattle.lic_command.specs.Usage.{IsShown}
 use Rattle.lic_command.specs.declared.faults.Stop.{Stop}
 use Rattle.lic_command.specs.declared.faults.Stop.TheVariants.{Arguments, Load, Check, Write, Memory}
@@ -112,7 +112,7 @@ module _ (found : Found) (progress : Progress) (out_old out_new err_old err_new 
       → IsTripleOf search.set.now after search.ask.now.after
       → map (λ f. f.now) names ≡ files_in found
       → ((refused : List (List ℕ)) × AreWritten (Scan search) out_old (map (λ name. name.now) names) refused out_new written
-      × (progress ≡ Hidden → AreTold err_mid failed_mid refused err_new failed_new))
+      × (progress ≡ Hidden → AreReported err_mid failed_mid refused err_new failed_new))
       → IsStatus (written.is_refused || is_left_out) written.has_line status
       → HasScanned found progress out_old out_new err_old err_new failed_old failed_new status
   scan_done err_mid failed_mid search listing is_left_out all limit after names written status rules words loaded left_out flag same_all is_limit
@@ -136,7 +136,7 @@ module _ (found : Found) (progress : Progress) (out_old out_new err_old err_new 
           triple = triple;
         };
         lines = subst (λ ns. AreWritten (Scan search) out_old ns lines.0 out_new written) files lines.1;
-        told = lines.2;
+        reported = lines.2;
         ends = ends;
       }
 
@@ -148,7 +148,7 @@ module _ (found : Found) (progress : Progress) (out_old out_new err_old err_new 
       → AreRulesFor found (rules_of rules.now) → IsListFor found words.now
       → map (λ f. f.now) names ≡ files_in found
       → ((refused : List (List ℕ)) × AreWritten (Tokens words rules) out_old (map (λ name. name.now) names) refused out_new written
-      × (progress ≡ Hidden → AreTold err_old failed_old refused err_new failed_new))
+      × (progress ≡ Hidden → AreReported err_old failed_old refused err_new failed_new))
       → IsStatus (written.is_refused || false) written.has_line status
       → HasListed found progress out_old out_new err_old err_new failed_old failed_new status
   tokens_done rules words names written status for_rules for_words files lines ends = record {
@@ -159,7 +159,7 @@ module _ (found : Found) (progress : Progress) (out_old out_new err_old err_new 
     rules_for = for_rules;
     words_for = for_words;
     lines = subst (λ ns. AreWritten (Tokens words rules) out_old ns lines.0 out_new written) files lines.1;
-    told = lines.2;
+    reported = lines.2;
     ends = subst (λ b. IsStatus b written.has_line status) (or_false written.is_refused) ends;
   }
 
@@ -199,11 +199,11 @@ help_ended old new err failed_old failed_new failed text (Err stop) shown = tt
 pub ended : (out_old out_new err_old err_mid err_new : Option (List ℕ)) (failed_old failed_mid failed_new : ℕ) (progress : Progress) (status : ℕ)
     (outcome : Result ℕ Stop) → IfOk outcome (HasEnded progress out_old out_new err_old err_mid failed_old failed_mid)
     → ((s : ℕ) → outcome ≡ Ok s → status ≡ s) → ((s : ℕ) → outcome ≡ Ok s → (err_new ≡ err_mid) × (failed_new ≡ failed_mid))
-    → (IsErr outcome → status ≡ 2) → (IsErr outcome → IsStopTold err_new failed_new)
+    → (IsErr outcome → status ≡ 2) → (IsErr outcome → IsStopReported err_new failed_new)
     → HasEnded progress out_old out_new err_old err_new failed_old failed_new status
-ended out_old out_new err_old err_mid err_new failed_old failed_mid failed_new progress status (Ok s) has done same two told =
+ended out_old out_new err_old err_mid err_new failed_old failed_mid failed_new progress status (Ok s) has done same two reported =
     subst (λ s. HasEnded progress out_old out_new err_old err_new failed_old failed_new s) (sym (done s refl))
     (subst (λ n. HasEnded progress out_old out_new err_old err_new failed_old n s) (sym (same s refl).1)
     (subst (λ err. HasEnded progress out_old out_new err_old err failed_old failed_mid s) (sym (same s refl).0) has))
-ended out_old out_new err_old err_mid err_new failed_old failed_mid failed_new progress status (Err stop) has done same two told =
-    stopped (told refl) (two refl)
+ended out_old out_new err_old err_mid err_new failed_old failed_mid failed_new progress status (Err stop) has done same two reported =
+    stopped (reported refl) (two refl)

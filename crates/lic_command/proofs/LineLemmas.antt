@@ -11,8 +11,8 @@ use Rattle.lic_engine.specs.declared.fault.RunFault.TheVariants.{Text, Read, Wri
 use Rattle.lic_command.specs.Lines.{AreBegun, AreLinesOf, AreWritten, HasWritten}
 use Rattle.lic_command.specs.Lines.AreWritten.{one_more}
 use Rattle.lic_command.specs.Outcomes.{IsWithOneMore, refused_by}
-use Rattle.lic_command.specs.Telling.{AreTold, IsAnswerTold}
-use Rattle.lic_command.specs.Telling.AreTold.{one_more as told_one_more}
+use Rattle.lic_command.specs.Reporting.{AreReported, IsAnswerReported}
+use Rattle.lic_command.specs.Reporting.AreReported.{one_more as reported_one_more}
 use Rattle.lic_command.specs.declared.faults.Stop.{Stop}
 use Rattle.lic_command.specs.declared.files.Work.{Work}
 use Rattle.lic_command.specs.declared.files.Written.{Written}
@@ -67,14 +67,14 @@ begun {old} {new} {written} {refused} (Err stop) work names k are =
     (k, refused, written, subst (λ ns. AreWritten work old ns refused new written) (sym (take-map (λ name. name.now) k names)) are)
 
 -- a line about one file more, if it is refused
-pub told_more : {old mid new : Option (List ℕ)} {failed_old failed_mid failed_new : ℕ} (refused : List (List ℕ)) (name : List ℕ)
-    (answer : Result Bool RunFault) → AreTold old failed_old refused mid failed_mid → IsAnswerTold name answer mid new failed_mid failed_new
-    → AreTold old failed_old (refused ++ refused_by name answer) new failed_new
-told_more {old} {mid} {new} {failed_old} {failed_mid} {failed_new} refused name (Ok some) told same =
-    subst (λ ns. AreTold old failed_old ns new failed_new) (sym (append-nil refused))
-    (subst (λ n. AreTold old failed_old refused new n) (sym same.1)
-    (subst (λ t. AreTold old failed_old refused t failed_mid) (sym same.0) told))
-told_more refused name (Err fault) told line = told_one_more name line.0 told line.1
+pub reported_more : {old mid new : Option (List ℕ)} {failed_old failed_mid failed_new : ℕ} (refused : List (List ℕ)) (name : List ℕ)
+    (answer : Result Bool RunFault) → AreReported old failed_old refused mid failed_mid → IsAnswerReported name answer mid new failed_mid failed_new
+    → AreReported old failed_old (refused ++ refused_by name answer) new failed_new
+reported_more {old} {mid} {new} {failed_old} {failed_mid} {failed_new} refused name (Ok some) reported same =
+    subst (λ ns. AreReported old failed_old ns new failed_new) (sym (append-nil refused))
+    (subst (λ n. AreReported old failed_old refused new n) (sym same.1)
+    (subst (λ t. AreReported old failed_old refused t failed_mid) (sym same.0) reported))
+reported_more refused name (Err fault) reported line = reported_one_more name line.0 reported line.1
 
 -- no write failed for one file more
 pub counts_more : {old mid new : ℕ} (answer : Result Bool RunFault) → CountsWrites answer mid new → mid ≡ old

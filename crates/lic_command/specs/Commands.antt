@@ -24,7 +24,7 @@ use Rattle.lic_load.specs.Reporting.{IsReported}
 use Rattle.lic_load.specs.declared.templates.Listing.{Listing}
 use Rattle.lic_command.specs.Lines.{AreWritten}
 use Rattle.lic_command.specs.Statuses.{IsStatus}
-use Rattle.lic_command.specs.Telling.{AreTold, IsStopTold}
+use Rattle.lic_command.specs.Reporting.{AreReported, IsStopReported}
 use Rattle.lic_command.specs.declared.files.Search.{Search}
 use Rattle.lic_command.specs.declared.files.Work.{Work}
 use Rattle.lic_command.specs.declared.files.Work.TheVariants.{Scan, Tokens}
@@ -78,7 +78,7 @@ pub record HasScanned (found : Found) (progress : Progress) (out_old out_new err
   pub templates : AreLoaded (rules_of search.rules.now) search.words.now search.set.now is_left_out err_old mid failed_old failed_mid
   pub ask : IsAskFor found search
   pub lines : AreWritten (Scan search) out_old (files_in found) refused out_new written
-  pub told : progress ≡ Hidden → AreTold mid failed_mid refused err_new failed_new
+  pub reported : progress ≡ Hidden → AreReported mid failed_mid refused err_new failed_new
   pub ends : IsStatus (written.is_refused || is_left_out) written.has_line status
 
 -- `tokens`: the lines of the tokens are written, each refused file is reported, and the status is the one that follows
@@ -91,7 +91,7 @@ pub record HasListed (found : Found) (progress : Progress) (out_old out_new err_
   pub rules_for : AreRulesFor found (rules_of rules.now)
   pub words_for : IsListFor found words.now
   pub lines : AreWritten (Tokens words rules) out_old (files_in found) refused out_new written
-  pub told : progress ≡ Hidden → AreTold err_old failed_old refused err_new failed_new
+  pub reported : progress ≡ Hidden → AreReported err_old failed_old refused err_new failed_new
   pub ends : IsStatus written.is_refused written.has_line status
 
 -- `check`: a line for each template is written, each that is left out is reported, and the status is the one that follows
@@ -130,4 +130,4 @@ pub data HasEnded (progress : Progress) (out_old out_new err_old err_new : Optio
       → HasEnded progress out_old out_new err_old err_new failed_old failed_new status
   refused : (text : List ℕ) → IsReported err_old err_new failed_old failed_new text → out_new ≡ out_old → status ≡ 2
       → HasEnded progress out_old out_new err_old err_new failed_old failed_new status
-  stopped : IsStopTold err_new failed_new → status ≡ 2 → HasEnded progress out_old out_new err_old err_new failed_old failed_new status
+  stopped : IsStopReported err_new failed_new → status ≡ 2 → HasEnded progress out_old out_new err_old err_new failed_old failed_new status

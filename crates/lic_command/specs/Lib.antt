@@ -1,6 +1,6 @@
 pub mod Commands
 pub mod Lines
 pub mod Outcomes
+pub mod Reporting
 pub mod Statuses
-pub mod Telling
 pub mod Usage

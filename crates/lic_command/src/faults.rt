@@ -2,7 +2,7 @@
 
 ghost use Rattle.std.specs.Prelude.{◌≡◌, ℕ, List, IfOk, string_bytes};
 ghost use Rattle.lic_load.specs.Reporting.{IsReported};
-ghost use Rattle.lic_command.specs.Telling.{line_of_stop};
+ghost use Rattle.lic_command.specs.Reporting.{line_of_stop};
 ghost use Rattle.lic_command.specs.declared.faults.Stop.TheVariants.{Arguments, Load, Memory};
 
 use lic_arguments::ArgumentFault;
@@ -68,7 +68,7 @@ fn line_of(alloc: Global, stop: &Stop) -> Result<String, AllocError>
 }
 
 /// Reports why the program ends.
-pub fn tell_stop<E: Sink>(alloc: Global, err: &mut E, stop: &Stop)
+pub fn report_stop<E: Sink>(alloc: Global, err: &mut E, stop: &Stop)
     ensures { (why : List ℕ)
         × IsReported (E.taken err.old) (E.taken err.new) (E.failed err.old) (E.failed err.new)
         (line_of_stop why) }

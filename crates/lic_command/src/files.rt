@@ -7,7 +7,7 @@ ghost use Rattle.lic_engine.specs.Inputs.{IsAccepted, IsRefused, IsUnrefused};
 ghost use Rattle.lic_engine.specs.Stream.{BeginsWith};
 ghost use Rattle.lic_command.specs.Lines.{AreBegun, AreLinesOf, AreWritten, HasWritten};
 ghost use Rattle.lic_command.specs.Outcomes.{IsStopAfter, IsWithOneMore, StopsForWrites};
-ghost use Rattle.lic_command.specs.Telling.{AreTold, IsAnswerTold};
+ghost use Rattle.lic_command.specs.Reporting.{AreReported, IsAnswerReported};
 
 use crate::faults::Stop;
 use crate::progress::Progress;
@@ -146,8 +146,8 @@ fn report_refusal<E: Sink>(
 ) -> Result<(), Stop>
     ensures ok { OnOk result (¬ (IsErrOf answer RunFault.Write)) }
     ensures stopped { IfErr result (IsStopAfter answer) }
-    ensures told { files.entry.progress ≡ Progress.Hidden → OnOk result
-        (IsAnswerTold name.now answer (E.taken err.old) (E.taken err.new) (E.failed err.old) (E.failed err.new)) }
+    ensures reported { files.entry.progress ≡ Progress.Hidden → OnOk result
+        (IsAnswerReported name.now answer (E.taken err.old) (E.taken err.new) (E.failed err.old) (E.failed err.new)) }
 {
     match answer {
         Ok(_) => Ok(()),
@@ -177,7 +177,7 @@ fn write_each<Rt: Files, R: Source, W: Sink, E: Sink>(
     ensures written { IfOk result (λ written. (refused : List (List ℕ))
         × AreWritten work.entry (W.taken out.old) (map (λ name. name.now) files.entry.names.now) refused (W.taken out.new) written
         × (files.entry.progress ≡ Progress.Hidden
-        → AreTold (E.taken err.old) (E.failed err.old) refused (E.taken err.new) (E.failed err.new))) }
+        → AreReported (E.taken err.old) (E.failed err.old) refused (E.taken err.new) (E.failed err.new))) }
     // It stops with what was written about some of the files, from the first.
     ensures part { OnErr result
         (AreBegun work.entry (W.taken out.old) (map (λ name. name.now) files.entry.names.now) (W.taken out.new)) }
@@ -213,7 +213,7 @@ pub fn write_files<Rt: Files, R: Source, W: Sink, E: Sink>(
     ensures written { IfOk result (λ written. (refused : List (List ℕ))
         × AreWritten work.entry (W.taken out.old) (map (λ name. name.now) files.entry.names.now) refused (W.taken out.new) written
         × (files.entry.progress ≡ Progress.Hidden
-        → AreTold (E.taken err.old) (E.failed err.old) refused (E.taken err.new) (E.failed err.new))) }
+        → AreReported (E.taken err.old) (E.failed err.old) refused (E.taken err.new) (E.failed err.new))) }
     // It stops with what was written about some of the files, from the first.
     ensures part { OnErr result
         (AreBegun work.entry (W.taken out.old) (map (λ name. name.now) files.entry.names.now) (W.taken out.new)) }

@@ -7,7 +7,7 @@ mod program;
 mod progress;
 mod status;
 
-pub use faults::{Stop, tell_stop};
+pub use faults::{Stop, report_stop};
 pub use files::{FileList, Search, Work, Written, write_files};
 pub use lic_engine::{RunFault, check, run, run_tokens};
 pub use lic_find::Ask;

@@ -3,9 +3,9 @@
 ghost use Rattle.std.specs.Prelude.{◌≡◌, ◌≤◌, ◌||◌, ℕ, List, Ok, IfOk, IsErr};
 ghost use Rattle.lic_load.specs.Reporting.{IsReported};
 ghost use Rattle.lic_command.specs.Statuses.{IsStatus, IsStatusOfCheck};
-ghost use Rattle.lic_command.specs.Telling.{line_of_stop};
+ghost use Rattle.lic_command.specs.Reporting.{line_of_stop};
 
-use crate::faults::{Stop, tell_stop};
+use crate::faults::{Stop, report_stop};
 use crate::files::Written;
 use lic_engine::RunFault;
 use lic_stream::Sink;
@@ -61,7 +61,7 @@ pub fn status_at_end<E: Sink>(alloc: Global, err: &mut E, outcome: Result<u8, St
     match outcome {
         Ok(status) => status,
         Err(stop) => {
-            tell_stop(alloc, err, &stop);
+            report_stop(alloc, err, &stop);
             REFUSED
         }
     }

@@ -10,10 +10,10 @@ use Rattle.lic_words.specs.Describing.{IsDescribed}
 use Rattle.lic_norm.specs.Tokens.{TokenValue}
 use Rattle.lic_phrases.specs.Rewriting.{Phrase}
 use Rattle.lic_set.specs.Sets.{Known, words_of}
-use Rattle.lic_set.specs.Matches.{IsMatch, letters_between}
+use Rattle.lic_set.specs.Matches.{all_letters, IsMatch, letters_between}
 use Rattle.lic_set.specs.declared.triple.Triple.{Triple}
 use Rattle.lic_stream.specs.Stream.{BeginsWith}
-use Rattle.lic_report.specs.Checking.{all_letters, Checked, check_line, known_of, says_yes, DescribesItsOriginal, IsVerdict, IsCheckReport}
+use Rattle.lic_report.specs.Checking.{Checked, check_line, known_of, says_yes, DescribesItsOriginal, IsVerdict, IsCheckReport}
 use Rattle.lic_stream.proofs.Written.{begins_empty}
 use Rattle.lic_engine.proofs.DoneLemmas.{AreDone, done_nothing, done_more, done_whole, done_begins_within}
 

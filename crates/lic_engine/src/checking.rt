@@ -3,13 +3,14 @@
 ghost use Rattle.std.specs.Prelude.{◌≡◌, ◌<◌, ◌↔◌, ℕ, List, Contains, length, IfOk, OnErr, IsErrOf, IsTrue, Some, slice_index_or};
 ghost use Rattle.std.specs.Io.KnownBytes.{Appends};
 ghost use Rattle.std.specs.List.{list_all};
+ghost use Rattle.lic_set.specs.Matches.{all_letters};
 ghost use Rattle.lic_set.specs.Sets.{Known, words_of};
 ghost use Rattle.lic_kind.specs.LineRules.{rules_of};
 ghost use Rattle.lic_norm.specs.Refusal.{refusal_of};
 ghost use Rattle.lic_norm.specs.Tokens.{tokens_of};
 ghost use Rattle.lic_words.specs.Describing.{IsDescribed};
 ghost use Rattle.lic_stream.specs.Stream.{BeginsWith};
-ghost use Rattle.lic_report.specs.Checking.{all_letters, Checked, DescribesItsOriginal, IsCheckReport, says_yes};
+ghost use Rattle.lic_report.specs.Checking.{Checked, DescribesItsOriginal, IsCheckReport, says_yes};
 ghost use Rattle.lic_engine.specs.Failures.{CountsWrites, IsOfText, Keeps};
 
 use crate::fault::RunFault;

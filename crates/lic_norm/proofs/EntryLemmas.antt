@@ -188,7 +188,7 @@ module _ (spelling spelling' text : List ℕ) (entries entries' : List Entry) (t
       grown ∙ ap (λ l. l ++ (blank_if (is_parted l text) ++ text)) kept.spells
       ∙ sym (spelled-snoc (texts_of tokens) text (are_texts tokens kept.utf8 kept.texts))
 
-  kept_more : IsKept spelling' entries' (tokens ++ token ∷ [])
+  pub kept_more : IsKept spelling' entries' (tokens ++ token ∷ [])
   kept_more = record {
     spells = spelled_more ∙ ap spelled (sym texts_more);
     each = subst (λ es. AreEntries [] (tokens ++ token ∷ []) es) (sym added)

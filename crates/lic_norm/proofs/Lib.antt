@@ -20,3 +20,4 @@ pub mod TakenSteps
 pub mod TextLemmas
 pub mod SpellingPlaces
 pub mod PartedLemmas
+pub mod BatchLemmas

@@ -32,7 +32,7 @@ split_last (b ∷ []) zero count = refl
 split_last (b ∷ c ∷ bytes) zero count = absurd (omega arith)
 split_last (b ∷ bytes) (suc n) count = ap (λ l. b ∷ l) (split_last bytes n (omega arith))
 
-ends-ascii : (bytes : List ℕ) (n : ℕ) → IsUtf8 bytes → n + 1 ≡ length bytes → get_or bytes n 0 < 128
+pub ends-ascii : (bytes : List ℕ) (n : ℕ) → IsUtf8 bytes → n + 1 ≡ length bytes → get_or bytes n 0 < 128
     → is_word_kind (kind_of (get_or bytes n 0)) ≡ ends_in_word bytes
 ends-ascii bytes n utf8 count small =
     let last = get_or bytes n 0 in
@@ -43,7 +43,7 @@ ends-ascii bytes n utf8 count small =
     ∙ ap (λ l. chars front ++ l) (chars-IsAscii (last ∷ []) (one_ascii last small)) in
     sym (ap (λ cs. first_is_word (reverse cs)) letters ∙ ap first_is_word (reverse-append (chars front) (last ∷ [])))
 
-begins-ascii : (bytes : List ℕ) → IsUtf8 bytes → 0 < length bytes → get_or bytes 0 0 < 128
+pub begins-ascii : (bytes : List ℕ) → IsUtf8 bytes → 0 < length bytes → get_or bytes 0 0 < 128
     → is_word_kind (kind_of (get_or bytes 0 0)) ≡ begins_in_word bytes
 begins-ascii [] utf8 some small = absurd (omega arith)
 begins-ascii (b ∷ bytes) utf8 some small =

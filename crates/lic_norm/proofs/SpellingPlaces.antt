@@ -70,7 +70,7 @@ first_of_front [] ys some = absurd (omega arith)
 first_of_front (x ∷ xs) ys some = refl
 
 -- what comes before a text has no effect on how it ends
-ends_as : (front text : List ℕ) → IsUtf8 front → IsUtf8 text → 0 < length text → ends_in_word (front ++ text) ≡ ends_in_word text
+pub ends_as : (front text : List ℕ) → IsUtf8 front → IsUtf8 text → 0 < length text → ends_in_word (front ++ text) ≡ ends_in_word text
 ends_as front text front_utf8 utf8 some =
     let some_letters : 0 < length (reverse (chars text)) = omega (arith, length-reverse (chars text), has_letters text utf8 some) in
     ap (λ cs. first_is_word (reverse cs)) (chars-append front text front_utf8)
@@ -84,7 +84,7 @@ no_blank_first c text is = false_from_ne_true (c == 0x20) (λ blank.
 
 -- ---- one more text of a spelling
 
-blank_utf8 : (parted : Bool) → IsUtf8 (blank_if parted)
+pub blank_utf8 : (parted : Bool) → IsUtf8 (blank_if parted)
 blank_utf8 true = subst IsUtf8 (encode_ascii 0x20 (omega arith)) (IsUtf8-encode 0x20 refl)
 blank_utf8 false = IsUtf8-nil
 

@@ -87,9 +87,14 @@ text_in_front (x ∷ l) (suc n) = at (is_joining x)
 -- a plain text is what its letters are
 pub plain_letters : (letters : List ℕ) → IsPlain letters → token_text letters ≡ letters
 plain_letters [] plain = refl
-plain_letters (l ∷ letters) plain =
-    cond-false (is_joining l) (l ∷ []) (l ∷ letters)
-    (or-false (l == 0x27) (l == 0x2D) (ne_eqb l 0x27 plain.apostrophe) (ne_eqb l 0x2D plain.hyphen))
+plain_letters (l ∷ []) plain = same (is_joining l)
+  where
+    same : (b : Bool) → (if b then l ∷ [] else l ∷ []) ≡ l ∷ []
+    same true = refl
+    same false = refl
+plain_letters (l ∷ m ∷ letters) plain =
+    cond-false (is_joining l) (l ∷ []) (l ∷ m ∷ letters)
+    (or-false (l == 0x27) (l == 0x2D) (ne_eqb l 0x27 (plain.apostrophe (omega arith))) (ne_eqb l 0x2D (plain.hyphen (omega arith))))
   where
     or-false : (a b : Bool) → a ≡ false → b ≡ false → (a || b) ≡ false
     or-false true b is_a is_b = is_a

@@ -8,3 +8,4 @@ pub mod Feeding
 pub mod Reading
 pub mod Places
 pub mod Stretches
+pub mod Batches

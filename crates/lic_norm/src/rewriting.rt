@@ -1,19 +1,20 @@
 //! From first tokens to the tokens of the rewriting, as they are kept.
-ghost use Rattle.std.specs.Prelude.{◌≡◌, ◌++◌, ◌∷◌, ◌<◌, ◌≤◌, ◌+◌, [], true, false, List, length, drop, map, min, slice_index_or};
-ghost use Rattle.std.specs.Prelude.{IfOk, IfSome, IsAscii, OnOk};
+ghost use Rattle.std.specs.Prelude.{◌≡◌, ◌++◌, ◌∷◌, ◌<◌, ◌≤◌, ◌+◌, [], true, List, length, drop, map, min};
+ghost use Rattle.std.specs.Prelude.{IfOk, OnOk};
 ghost use Rattle.lic_kind.specs.LineRules.{rules_of};
 ghost use Rattle.lic_lines.specs.Tokens.{Token, single_signs, text_tokens_after, token_in, tokens_in};
 ghost use Rattle.lic_phrases.specs.Rewriting.{rewritten};
-ghost use Rattle.lic_phrases.specs.Settling.{IsLeft};
+ghost use Rattle.lic_phrases.specs.Settling.{nothing_kept};
 ghost use Rattle.lic_phrases.specs.TokenTexts.{HaveTokenTexts, IsTokenText};
 ghost use Rattle.lic_norm.specs.Reading.{HasTaken, HasTakenSome, HasTakenUpTo, phrases_of};
 ghost use Rattle.lic_norm.specs.Spans.{HaveTexts};
-ghost use Rattle.lic_norm.specs.Stretches.{begins_sign};
 ghost use Rattle.lic_norm.specs.Tokens.{reported};
 
+pub(crate) mod batch;
 pub(crate) mod stretch;
 pub(crate) mod token_list;
 
+use crate::rewriting::batch::{Batch, Spelled, plain_text, spell};
 use crate::rewriting::stretch::Stretch;
 use crate::rewriting::token_list::TokenList;
 use lic_lines::{
@@ -39,27 +40,6 @@ pub struct Rewriting<'w> {
     tokens: TokenList,
     /// Room for the tokens that are settled together.
     settled: Vec<FinalToken>,
-}
-
-/// The text of the token number `i` of lines of ASCII, if it is plain: no copyright sign begins there, and where the rewriter keeps
-/// none back, it leaves the token as it is. Mostly the first letter and the length say so.
-#[inline(always)]
-fn plain_text<'a>(phrases: &Phrases, stretch: &Stretch<'a>, i: usize) -> Option<&'a str>
-    requires { i < length stretch.now }
-    ensures text { IfSome result (λ text. (d : _) → text.now ≡ (slice_index_or stretch.now i d).text) }
-    ensures ascii { IfSome result (λ text. IsAscii text.now) }
-    ensures no_sign { IfSome result (λ text. begins_sign (drop i stretch.now) ≡ false) }
-    ensures left { IfSome result (λ text. IsLeft phrases.now.phrases text.now) }
-{
-    let letters = stretch.letters_of(i);
-    if Rewriter::leaves_plain(phrases, letters) {
-        return Some(letters);
-    }
-    let text = stretch.text(i);
-    if stretch.is_sign(i, text) || !Rewriter::leaves(phrases, text) {
-        return None;
-    }
-    Some(text)
 }
 
 impl<'w> Rewriting<'w> {
@@ -204,7 +184,12 @@ impl<'w> Rewriting<'w> {
     /// Takes tokens of lines of ASCII, from the number `i` on, as long as each is settled at once and as it is. Gives the number of
     /// the next.
     #[inline(never)]
-    fn take_plain(&mut self, stretch: &Stretch<'_>, i: usize) -> Result<usize, AllocError>
+    fn take_plain(
+        &mut self,
+        stretch: &Stretch<'_>,
+        i: usize,
+        batch: &mut Batch,
+    ) -> Result<usize, AllocError>
         requires within { i ≤ length stretch.now }
         requires texts { HaveTexts stretch.now }
         ensures from { IfOk result (λ next. i ≤ next) }
@@ -218,14 +203,60 @@ impl<'w> Rewriting<'w> {
         }
         let mut next = i;
         while next < stretch.len() {
-            let Some(text) = plain_text(self.phrases, stretch, next) else {
+            let after = self.take_batch(stretch, next, batch)?;
+            next = self.take_one(stretch, after)?;
+            if next == after {
                 return Ok(next);
-            };
-            let letters = stretch.letters_from(next);
-            let (start, end) = (stretch.start(next), stretch.end(next));
-            self.tokens.push_front(text, letters, start, end)?;
-            next += 1;
+            }
         }
+        Ok(next)
+    }
+
+    /// Takes the token number `i` of lines of ASCII, if there is one and it is plain. Gives the number of the next.
+    #[inline(never)]
+    fn take_one(&mut self, stretch: &Stretch<'_>, i: usize) -> Result<usize, AllocError>
+        requires within { i ≤ length stretch.now }
+        requires none { self.old.rewriter ≡ nothing_kept }
+        requires texts { HaveTexts stretch.now }
+        ensures from { IfOk result (λ next. i ≤ next) }
+        ensures within { IfOk result (λ next. next ≤ length stretch.now) }
+        ensures taken { IfOk result (λ next. HasTakenUpTo stretch.now i next self.old self.new) }
+        ensures none { self.new.rewriter ≡ self.old.rewriter }
+        ensures phrases { self.new.phrases.now ≡ self.old.phrases.now }
+        ensures settled { self.new.settled.items ≡ self.old.settled.items }
+    {
+        if i >= stretch.len() {
+            return Ok(i);
+        }
+        let Some(text) = plain_text(self.phrases, stretch, i) else {
+            return Ok(i);
+        };
+        let letters = stretch.letters_from(i);
+        let (start, end) = (stretch.start(i), stretch.end(i));
+        self.tokens.push_front(text, letters, start, end)?;
+        Ok(i + 1)
+    }
+
+    /// Takes tokens of lines of ASCII together, from the number `i` on, as long as each is plain and short. Gives the number of the next.
+    fn take_batch(
+        &mut self,
+        stretch: &Stretch<'_>,
+        i: usize,
+        batch: &mut Batch,
+    ) -> Result<usize, AllocError>
+        requires within { i ≤ length stretch.now }
+        requires none { self.old.rewriter ≡ nothing_kept }
+        requires texts { HaveTexts stretch.now }
+        ensures from { IfOk result (λ next. i ≤ next) }
+        ensures within { IfOk result (λ next. next ≤ length stretch.now) }
+        ensures taken { IfOk result (λ next. HasTakenUpTo stretch.now i next self.old self.new) }
+        ensures none { self.new.rewriter ≡ self.old.rewriter }
+        ensures phrases { self.new.phrases.now ≡ self.old.phrases.now }
+        ensures settled { self.new.settled.items ≡ self.old.settled.items }
+    {
+        let Spelled { next, place, .. } = spell(self, stretch, i, batch);
+        self.tokens
+            .add(&batch.bytes[..place], &batch.entries[..next - i])?;
         Ok(next)
     }
 
@@ -266,6 +297,7 @@ impl<'w> Rewriting<'w> {
         &mut self,
         alloc: Global,
         stretch: &Stretch<'_>,
+        batch: &mut Batch,
     ) -> Result<(), AllocError>
         requires before { HasTakenSome self.old }
         requires texts { HaveTexts stretch.now }
@@ -277,7 +309,7 @@ impl<'w> Rewriting<'w> {
         self.tokens.reserve(stretch.len(), stretch.bytes())?;
         let mut i = 0;
         while i < stretch.len() {
-            i = self.take_plain(stretch, i)?;
+            i = self.take_plain(stretch, i, batch)?;
             i = self.take_next(alloc, stretch, i)?;
         }
         Ok(())

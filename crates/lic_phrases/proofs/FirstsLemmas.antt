@@ -1,11 +1,11 @@
 -- What the prefilter of first texts says no to has no bound.
-use Rattle.std.proofs.Common.{◌≡◌, ◌≢◌, ◌∙◌, ◌-◌, ◌<◌, ◌*◌, ◌%◌, ◌^◌, ℕ, suc, min, List, [], ◌∷◌, length, get_or, Bool, true, false, ◌||◌, ◌==◌, inl, inr, refl, sym, ap, arith, true≢false}
+use Rattle.std.proofs.Common.{◌≡◌, ◌≢◌, ◌∙◌, ◌-◌, ◌<◌, ◌*◌, ◌/◌, ◌%◌, ◌^◌, ℕ, zero, suc, min, List, [], ◌∷◌, length, get_or, Bool, true, false, ◌||◌, ◌==◌, inl, inr, refl, sym, ap, arith, true≢false}
 use Rattle.std.proofs.lemmas.Bool.{cases_Bool, cases_eq, cond-false, eq-eqb, or_left, or_right}
 use Rattle.std.proofs.lemmas.List.{get_or-set_same, get_or-set_other}
-use Rattle.std.proofs.lemmas.Nat.Bits.{bit_at_ones}
+use Rattle.std.proofs.lemmas.Nat.Bits.{bit_at-suc, bit_at_ones}
 use Rattle.std.specs.Prelude.{slice_set, bit_or}
 use Rattle.lic_trim.specs.PieceLengths.{has_bit}
-use Rattle.lic_trim.proofs.PieceLengths.{has_bit_set}
+use Rattle.lic_trim.proofs.PieceLengths.{has_bit_or, has_bit_set}
 use Rattle.std.proofs.lemmas.Slice.Eq.{bytes_eq-Decides}
 use Rattle.std.specs.Prelude.{bytes_eq, codes}
 use Rattle.lic_phrases.specs.FirstTexts.{may_have, HasAll, HasOthers, IsPlain}
@@ -59,32 +59,49 @@ HasAll-raised old new first count most_from raised all r added grows text none =
 
 -- ---- texts that are not plain
 
-all_bits : (mask n : ℕ) → mask ≡ 2 ^ 64 - 1 → n < 64 → has_bit mask n ≡ true
-all_bits mask n all small = ap (λ m. has_bit m n) all ∙ ap (λ b. b == 1) (bit_at_ones 64 n small)
+-- the bits of two bytes and more
+longer_bits : (n : ℕ) → 1 < n → n < 64 → has_bit (2 ^ 64 - 4) n ≡ true
+longer_bits zero two small = absurd (omega arith)
+longer_bits (suc zero) two small = absurd (omega arith)
+longer_bits (suc (suc n)) two small =
+    ap (λ b. b == 1) (bit_at-suc (2 ^ 64 - 4) (suc n) ∙ bit_at-suc ((2 ^ 64 - 4) / 2) n ∙ bit_at_ones 62 n (omega arith))
 
--- the table with all bits of a byte
-abbrev pub with_all : List ℕ → ℕ → List ℕ
-with_all lengths first = slice_set lengths first (2 ^ 64 - 1)
+-- the table with them for a byte
+abbrev pub with_longer : List ℕ → ℕ → List ℕ
+with_longer lengths first = slice_set lengths first (bit_or (get_or lengths first 0) (2 ^ 64 - 4))
 
-pub may_have-all : (lengths : List ℕ) (first : ℕ) → first < length lengths → (rest : List ℕ) → may_have (with_all lengths first) (first ∷ rest) ≡ true
-may_have-all lengths first within rest =
-    all_bits (get_or (with_all lengths first) first 0) (min (suc (length rest)) 63) (get_or-set_same lengths first (2 ^ 64 - 1) 0 within) (omega arith)
+longer_here : (lengths : List ℕ) (first m : ℕ) → first < length lengths
+    → has_bit (get_or (with_longer lengths first) first 0) m ≡ (has_bit (get_or lengths first 0) m || has_bit (2 ^ 64 - 4) m)
+longer_here lengths first m within =
+    ap (λ x. has_bit x m) (get_or-set_same lengths first (bit_or (get_or lengths first 0) (2 ^ 64 - 4)) 0 within)
+    ∙ has_bit_or (get_or lengths first 0) (2 ^ 64 - 4) m
 
-pub may_have-grows_all : (lengths : List ℕ) (first : ℕ) → first < length lengths → (text : List ℕ) → may_have lengths text ≡ true
-    → may_have (with_all lengths first) text ≡ true
-may_have-grows_all lengths first within [] had = refl
-may_have-grows_all lengths first within (b ∷ rest) had = elim (cases_eq b first) [
-  | inl same ↦ ap (λ k. may_have (with_all lengths first) (k ∷ rest)) same ∙ may_have-all lengths first within rest
-  | inr other ↦ ap (λ x. has_bit x (min (suc (length rest)) 63)) (get_or-set_other lengths first b (2 ^ 64 - 1) 0 other) ∙ had
-]
+pub may_have-longer : (lengths : List ℕ) (first : ℕ) → first < length lengths → (next : ℕ) (rest : List ℕ)
+    → may_have (with_longer lengths first) (first ∷ next ∷ rest) ≡ true
+may_have-longer lengths first within next rest =
+    let m = min (suc (suc (length rest))) 63 in
+    longer_here lengths first m within ∙ or_right (has_bit (get_or lengths first 0) m) (has_bit (2 ^ 64 - 4) m) (longer_bits m (omega arith) (omega arith))
+
+pub may_have-grows_longer : (lengths : List ℕ) (first : ℕ) → first < length lengths → (text : List ℕ) → may_have lengths text ≡ true
+    → may_have (with_longer lengths first) text ≡ true
+may_have-grows_longer lengths first within [] had = refl
+may_have-grows_longer lengths first within (b ∷ rest) had =
+    let m = min (suc (length rest)) 63 in
+    elim (cases_eq b first) [
+      | inl same ↦
+          ap (λ k. has_bit (get_or (with_longer lengths first) k 0) m) same ∙ longer_here lengths first m within
+          ∙ or_left (has_bit (get_or lengths first 0) m) (has_bit (2 ^ 64 - 4) m) (ap (λ k. has_bit (get_or lengths k 0) m) (sym same) ∙ had)
+      | inr other ↦
+          ap (λ x. has_bit x m) (get_or-set_other lengths first b (bit_or (get_or lengths first 0) (2 ^ 64 - 4)) 0 other) ∙ had
+    ]
 
 pub HasOthers-grown : (old new : List ℕ) → ((t : List ℕ) → may_have old t ≡ true → may_have new t ≡ true) → HasOthers old → HasOthers new
 HasOthers-grown old new grows others = record {
   sign = grows (codes "copyright") others.sign;
   address = grows (codes "https") others.address;
   parenthesis = grows (codes "(") others.parenthesis;
-  apostrophe = λ rest. grows (0x27 ∷ rest) (others.apostrophe rest);
-  hyphen = λ rest. grows (0x2D ∷ rest) (others.hyphen rest);
+  apostrophe = λ next rest. grows (0x27 ∷ next ∷ rest) (others.apostrophe next rest);
+  hyphen = λ next rest. grows (0x2D ∷ next ∷ rest) (others.hyphen next rest);
 }
 
 other_text : (lengths had text : List ℕ) → may_have lengths had ≡ true → may_have lengths text ≡ false → bytes_eq had text ≡ false
@@ -93,11 +110,12 @@ other_text lengths had text there none = elim (cases_Bool (bytes_eq had text)) [
   | inr other ↦ other
 ]
 
-other_first : (lengths : List ℕ) (first : ℕ) (text : List ℕ) → ((rest : List ℕ) → may_have lengths (first ∷ rest) ≡ true)
-    → may_have lengths text ≡ false → get_or text 0 0 ≢ first
-other_first lengths first [] there none = absurd (true≢false none)
-other_first lengths first (b ∷ rest) there none = λ same.
-    true≢false (sym (there rest) ∙ ap (λ x. may_have lengths (x ∷ rest)) (sym same) ∙ none)
+other_first : (lengths : List ℕ) (first : ℕ) (text : List ℕ) → ((next : ℕ) (rest : List ℕ) → may_have lengths (first ∷ next ∷ rest) ≡ true)
+    → may_have lengths text ≡ false → 1 < length text → get_or text 0 0 ≢ first
+other_first lengths first [] there none two = absurd (true≢false none)
+other_first lengths first (b ∷ []) there none two = absurd (omega arith)
+other_first lengths first (b ∷ c ∷ rest) there none two = λ same.
+    true≢false (sym (there c rest) ∙ ap (λ x. may_have lengths (x ∷ c ∷ rest)) (sym same) ∙ none)
 
 -- a text that has no bit is plain
 pub plain : (lengths text : List ℕ) → HasOthers lengths → may_have lengths text ≡ false → IsPlain text

@@ -1,5 +1,5 @@
 -- The prefilter of the texts that begin a phrase.
-use Rattle.std.specs.Prelude.{◌≡◌, ◌≢◌, ℕ, suc, min, Bool, true, false, List, [], ◌∷◌, length, slice_index, codes, bytes_eq}
+use Rattle.std.specs.Prelude.{◌≡◌, ◌≢◌, ◌<◌, ℕ, suc, min, Bool, true, false, List, [], ◌∷◌, length, slice_index, codes, bytes_eq}
 use Rattle.lic_trim.specs.PieceLengths.{has_bit}
 
 -- Whether the table has a bit for the first byte of a text and its length, where the last bit is for 63 bytes and more. It says yes to no text at all.
@@ -12,18 +12,18 @@ abbrev pub HasAll : List ℕ → (List ℕ → ℕ) → Type 0
 HasAll lengths most_from = (text : List ℕ) → may_have lengths text ≡ false → most_from text ≡ 0
 
 -- A text that is no sign, no `https` and no `(`, which may begin a sign, and does not begin with an apostrophe or a hyphen, of which
--- several side by side are one token.
+-- several side by side are one token, unless it is that alone.
 pub record IsPlain (text : List ℕ) : Type 0 where
   pub sign : bytes_eq (codes "copyright") text ≡ false
   pub address : bytes_eq (codes "https") text ≡ false
   pub parenthesis : bytes_eq (codes "(") text ≡ false
-  pub apostrophe : slice_index text 0 ≢ 0x27
-  pub hyphen : slice_index text 0 ≢ 0x2D
+  pub apostrophe : 1 < length text → slice_index text 0 ≢ 0x27
+  pub hyphen : 1 < length text → slice_index text 0 ≢ 0x2D
 
 -- each text that is not plain has its bit
 pub record HasOthers (lengths : List ℕ) : Type 0 where
   pub sign : may_have lengths (codes "copyright") ≡ true
   pub address : may_have lengths (codes "https") ≡ true
   pub parenthesis : may_have lengths (codes "(") ≡ true
-  pub apostrophe : (rest : List ℕ) → may_have lengths (0x27 ∷ rest) ≡ true
-  pub hyphen : (rest : List ℕ) → may_have lengths (0x2D ∷ rest) ≡ true
+  pub apostrophe : (next : ℕ) (rest : List ℕ) → may_have lengths (0x27 ∷ next ∷ rest) ≡ true
+  pub hyphen : (next : ℕ) (rest : List ℕ) → may_have lengths (0x2D ∷ next ∷ rest) ≡ true

@@ -1,17 +1,13 @@
 -- Whether templates describe their original texts.
 use Rattle.std.specs.Prelude.{◌≡◌, ◌↔◌, ℕ, Bool, IsTrue, List, ◌++◌, All, map, decimal, codes, if◌then◌else◌}
 use Rattle.std.specs.List.{flat_map}
-use Rattle.std.specs.Str.{chars}
 use Rattle.lic_kind.specs.LineRules.{LineRules}
 use Rattle.lic_words.specs.Describing.{IsDescribed}
-use Rattle.lic_norm.specs.Tokens.{TokenValue, tokens_of}
+use Rattle.lic_norm.specs.Tokens.{tokens_of}
 use Rattle.lic_phrases.specs.Rewriting.{Phrase}
+use Rattle.lic_set.specs.Matches.{all_letters}
 use Rattle.lic_set.specs.Sets.{Known, words_of}
 use Rattle.lic_fields.specs.Fields.{escaped, field}
-
--- the letters of each token
-abbrev pub all_letters : List TokenValue → List (List ℕ)
-all_letters tokens = map (λ t. chars t.text) tokens
 
 -- the template describes all tokens of its original text, and there is one
 abbrev pub DescribesItsOriginal : LineRules → List Phrase → Known → Type 0

@@ -13,7 +13,7 @@ use Rattle.lic_set.specs.Sets.{Known, words_of}
 use Rattle.lic_set.specs.declared.triple.Triple.{Triple}
 use Rattle.lic_search.specs.declared.range.Range.{Range}
 use Rattle.lic_bundles.specs.declared.bundle.Bundle.{Bundle}
-use Rattle.lic_search.specs.declared.all.AllMatches.{AllMatches}
+use Rattle.lic_search.specs.declared.all.BundledMatches.{BundledMatches}
 use Rattle.lic_bundles.specs.Bundles.{AreApart, IsOf}
 use Rattle.lic_search.specs.AllMatches.{AddsBundles, AddsLeft, AddsTemplate, AreBundlesOf, AreMatchBundles, BundlesHold, IsOrdered}
 use Rattle.lic_search.specs.Matches.{HasLeastRanges, range_of}
@@ -114,7 +114,7 @@ all_none set tokens bundles left no_bundles no_left = subst (λ x. HasAllOf set 
   once = λ i j d before low. absurd (omega arith);
 }))
 
-module _ (set : List Known) (tokens : List TokenValue) (numbers : List ℕ) (number : ℕ) (old new : AllMatches)
+module _ (set : List Known) (tokens : List TokenValue) (numbers : List ℕ) (number : ℕ) (old new : BundledMatches)
     (has : HasAllOf set tokens numbers old.bundles.items old.left.items) (greater : (n : ℕ) → Contains numbers n → n < number) (below : number < length set) where
   -- its bundles
   with_bundles : AddsBundles set tokens number old new → HasAllOf set tokens (numbers ++ number ∷ []) new.bundles.items new.left.items

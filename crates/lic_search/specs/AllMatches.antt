@@ -6,7 +6,7 @@ use Rattle.lic_set.specs.declared.triple.Triple.{Triple}
 use Rattle.lic_search.specs.Matches.{DescribesRange, range_of}
 use Rattle.lic_set.specs.Matches.{IsMatch}
 use Rattle.lic_set.specs.Sets.{Known}
-use Rattle.lic_search.specs.declared.all.AllMatches.{AllMatches}
+use Rattle.lic_search.specs.declared.all.BundledMatches.{BundledMatches}
 use Rattle.lic_bundles.specs.Bundles.{AreApart, IsOf}
 use Rattle.lic_bundles.specs.declared.bundle.Bundle.{Bundle}
 
@@ -34,17 +34,17 @@ pub record AreMatchBundles (set : List Known) (tokens : List TokenValue) (number
   pub once : AreApart bundles
 
 -- bundles were added that have each match of the template of this number once, and no other
-pub record AddsBundles (set : List Known) (tokens : List TokenValue) (number : ℕ) (old new : AllMatches) : Type 0 where
+pub record AddsBundles (set : List Known) (tokens : List TokenValue) (number : ℕ) (old new : BundledMatches) : Type 0 where
   pub more : List Bundle
   pub added : new.bundles.items ≡ old.bundles.items ++ more
   pub are : AreMatchBundles set tokens number more
   pub left : new.left.items ≡ old.left.items
 
 -- the number was added to those of the templates that are left
-pub record AddsLeft (number : ℕ) (old new : AllMatches) : Type 0 where
+pub record AddsLeft (number : ℕ) (old new : BundledMatches) : Type 0 where
   pub bundles : new.bundles.items ≡ old.bundles.items
   pub left : new.left.items ≡ old.left.items ++ number ∷ []
 
 -- the matches of one template were added, or its number
-abbrev pub AddsTemplate : List Known → List TokenValue → ℕ → AllMatches → AllMatches → Type 0
+abbrev pub AddsTemplate : List Known → List TokenValue → ℕ → BundledMatches → BundledMatches → Type 0
 AddsTemplate set tokens number old new = AddsBundles set tokens number old new ⊎ AddsLeft number old new

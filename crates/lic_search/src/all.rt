@@ -20,9 +20,9 @@ use std::alloc::{AllocError, Global};
 /// How many bundles there may be beyond the number of tokens.
 const MOST_MORE: usize = 262_144;
 
-/// Matches of the templates of a set.
+/// Matches of the templates of a set, as bundles.
 #[derive(Debug, Drop)]
-pub struct AllMatches {
+pub struct BundledMatches {
     /// All matches of the other templates.
     pub bundles: Vec<Bundle>,
     /// The numbers of the templates whose matches would be too many bundles, in rising order.
@@ -35,7 +35,7 @@ pub struct AllMatches {
 /// # Errors
 ///
 /// Fails if memory runs out.
-pub fn all_matches(alloc: Global, set: &Set, text: &Text) -> Result<AllMatches, AllocError>
+pub fn all_matches(alloc: Global, set: &Set, text: &Text) -> Result<BundledMatches, AllocError>
     ensures sound { IfOk result (λ found. (t : Triple) → BundlesHold found.bundles.items t → IsMatch set.now text.now.tokens t) }
     ensures complete { IfOk result (λ found. (t : Triple) → IsMatch set.now text.now.tokens t
         → BundlesHold found.bundles.items t ⊎ Contains found.left.items t.template) }
@@ -46,7 +46,7 @@ pub fn all_matches(alloc: Global, set: &Set, text: &Text) -> Result<AllMatches, 
     ensures once { IfOk result (λ found. AreApart found.bundles.items) }
 {
     let view = View::new(text);
-    let mut found = AllMatches {
+    let mut found = BundledMatches {
         bundles: Vec::new(alloc),
         left: Vec::new(alloc),
     };
@@ -64,7 +64,7 @@ fn add_template(
     text: &Text,
     view: &View<'_>,
     candidate: &Candidate,
-    found: &mut AllMatches,
+    found: &mut BundledMatches,
 ) -> Result<(), AllocError>
     requires candidate { IsCandidateOf set.now view.now candidate.now }
     requires text { view.now ≡ text.now.tokens }

@@ -13,5 +13,5 @@ mod search;
 mod tight;
 mod windows;
 
-pub use all::{AllMatches, all_matches};
+pub use all::{BundledMatches, all_matches};
 pub use tight::tight_matches;

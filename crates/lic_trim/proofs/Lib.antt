@@ -14,6 +14,7 @@ pub mod BeginningTexts
 pub mod PieceLengths
 pub mod SeparatorLengths
 pub mod SequencePlaces
+pub mod LongSeparators
 pub mod ItemLemmas
 pub mod NoItems
 pub mod CutLemmas

@@ -1,11 +1,17 @@
 -- The places where sequences of pieces end, from one to the next.
-use Rattle.std.proofs.Common.{◌≡◌, ℕ, zero, suc, ◌+◌, ◌-◌, ◌<◌, ◌≤◌, Bool, true, false, ◌&&◌, ◌||◌, if◌then◌else◌, List, length, take, drop, refl, sym, ap, ◌∙◌, subst, ⊎_elim, arith}
-use Rattle.std.specs.Prelude.{slice_range, nat_le}
+use Rattle.std.proofs.Common.{◌≡◌, ℕ, zero, suc, ◌+◌, ◌-◌, ◌<◌, ◌≤◌, Bool, true, false, ◌&&◌, ◌||◌, if◌then◌else◌, ◌==◌, List, length, take, drop, get_or, refl, sym, ap, ◌∙◌, subst, ⊎_elim, arith}
+use Rattle.std.specs.Prelude.{slice_range, slice_index, nat_le}
+use Rattle.std.specs.Char.{is_whitespace}
 use Rattle.std.proofs.lemmas.Bool.{false≢true, and_parts, and_from, or_cases, or_left, or_right, cases_Bool, cases_lt, cond-true, cond-false, leb-true, le-leb}
-use Rattle.std.proofs.lemmas.List.{length-drop}
-use Rattle.lic_trim.specs.PieceLengths.{has_bit}
+use Rattle.std.proofs.lemmas.List.{length-drop, get_or-drop}
+use Rattle.lic_kind.specs.Kinds.{kind_of, is_mark_kind}
+use Rattle.lic_kind.specs.LineRules.{LineRules}
+use Rattle.lic_kind.proofs.KindLemmas.{kind_of-white}
+use Rattle.lic_trim.specs.PieceLengths.{has_bit, AreLengths}
 use Rattle.lic_trim.specs.Texts.{is_sequence, greatest, longest_front}
-use Rattle.lic_trim.proofs.PieceLengths.{has_bit_zero}
+use Rattle.lic_trim.specs.Walks.{Side, is_walked_piece, may_open}
+use Rattle.lic_trim.proofs.PieceLengths.{has_bit_zero, or-false, space_bit, space_lengths, next_with}
+use Rattle.lic_trim.proofs.SeparatorLengths.{bits_of_word}
 use Rattle.lic_trim.proofs.SequenceLemmas.{sequence_ends, sequence_goes_on}
 use Rattle.lic_trim.proofs.TailSequences.{greatest_stays, greatest_le}
 
@@ -166,3 +172,23 @@ module _ (p : List ℕ → Bool) (way : List ℕ) (at ends longest : ℕ) (are :
 
 pub longest_within : (p : List ℕ → Bool) (way : List ℕ) (n : ℕ) → n ≡ longest_front (is_sequence p) way → n ≤ length way
 longest_within p way n is = omega (arith, is, greatest_le (λ m. is_sequence p (take m way)) (length way))
+
+-- where white space is, and no text begins with it, the one end goes on
+pub blank_ends : (rules : LineRules) (side : Side) (way : List ℕ) (at longest : ℕ) → AreEnds (is_walked_piece rules side) way at 1 longest → at < length way
+    → is_whitespace (slice_index way at) ≡ true → may_open rules side (slice_index way at) ≡ false
+    → AreEnds (is_walked_piece rules side) way (at + 1) 1 at
+blank_ends rules side way at longest are inside white closed =
+    let p = is_walked_piece rules side in
+    let rest = drop at way in
+    let long = length-drop at way in
+    let start : at + 0 ≡ at = omega arith in
+    let first : get_or rest 0 0 ≡ slice_index way at = get_or-drop at way 0 0 ∙ ap (slice_index way) start in
+    let light : is_whitespace (get_or rest 0 0) ≡ true = ap is_whitespace first ∙ white in
+    let no_mark : is_mark_kind (kind_of (get_or rest 0 0)) ≡ false = ap is_mark_kind (kind_of-white (get_or rest 0 0) light) in
+    let lengths : AreLengths rules side rest 2 =
+    space_lengths rules side rest 2 (omega (arith, long)) (ap (may_open rules side) first ∙ closed)
+    (λ n. space_bit n ∙ ap (λ b. b && (n == 1)) (sym light)
+    ∙ sym (or-false (is_whitespace (get_or rest 0 0) && (n == 1)))
+    ∙ ap (λ b. (is_whitespace (get_or rest 0 0) && (n == 1)) || b) (sym (has_bit_zero n) ∙ bits_of_word rest rules.separators no_mark n)) in
+    ends_next p way at 1 longest are inside 1
+    (λ d. next_with 1 2 (nat_le (suc d) (length rest) && p (take (suc d) rest)) d refl (lengths.each (suc d) (omega arith)))

@@ -266,6 +266,40 @@ closed_first side way (t ∷ ts) none =
     let parts = or_none (opens_in (get_or way 0 0) (walked side t)) _ none in
     or_off (may_begin_with way (walked side t)) _ (stands_first way (walked side t) parts.0) (closed_first side way ts parts.1)
 
+pub closed_there : (rules : LineRules) (side : Side) (way : List ℕ) → may_open rules side (get_or way 0 0) ≡ false → may_begin_with_any rules side way ≡ false
+closed_there rules side way closed =
+    let parts = or_none _ _ closed in
+    let more = or_none _ _ parts.1 in
+    or_off _ _ (closed_first side way (side_texts rules side) parts.0)
+    (or_off _ _ (closed_first side way (side_spaced rules side) more.0)
+    (closed_first side way (side_repeated rules side) more.1))
+
+-- the same where the way begins with no text, and none begins in white space
+begins_none : (way : List ℕ) (side : Side) (ts : List (List ℕ)) → list_any (λ t. opens_in 32 (walked side t)) ts ≡ false
+    → list_any (λ t. begins_with_text way (walked side t)) ts ≡ false
+    → list_any (λ t. may_begin_with way (walked side t)) ts ≡ false
+begins_none way side [] white none = refl
+begins_none way side (t ∷ ts) white none =
+    let whites = or_none (opens_in 32 (walked side t)) _ white in
+    let nones = or_none (begins_with_text way (walked side t)) _ none in
+    or_off (may_begin_with way (walked side t)) _ (one (walked side t) whites.0 nones.0) (begins_none way side ts whites.1 nones.1)
+  where
+    one : (t : List ℕ) → opens_in 32 t ≡ false → begins_with_text way t ≡ false → may_begin_with way t ≡ false
+    one [] white none = refl
+    one (c ∷ t) white none = or_off (is_whitespace c) (begins_with_text way (c ∷ t)) (or_none (is_whitespace c) (c == 32) white).0 none
+
+pub no_text_there : (rules : LineRules) (side : Side) (way : List ℕ) → may_open rules side 32 ≡ false
+    → list_any (λ t. begins_with_text way (walked side t)) (side_texts rules side) ≡ false
+    → list_any (λ t. begins_with_text way (walked side t)) (side_spaced rules side) ≡ false
+    → list_any (λ t. begins_with_text way (walked side t)) (side_repeated rules side) ≡ false
+    → may_begin_with_any rules side way ≡ false
+no_text_there rules side way white texts spaced repeated =
+    let parts = or_none _ _ white in
+    let more = or_none _ _ parts.1 in
+    or_off _ _ (begins_none way side (side_texts rules side) parts.0 texts)
+    (or_off _ _ (begins_none way side (side_spaced rules side) more.0 spaced)
+    (begins_none way side (side_repeated rules side) more.1 repeated))
+
 pub longest_spaces : (rules : LineRules) (side : Side) (line : List ℕ) (n : ℕ) → n < length line
     → ((i : ℕ) → i < n → is_whitespace (slice_index line i) ≡ true) → is_whitespace (slice_index line n) ≡ false
     → may_open rules side (slice_index line n) ≡ false
@@ -274,14 +308,7 @@ pub longest_spaces : (rules : LineRules) (side : Side) (line : List ℕ) (n : �
 longest_spaces rules side line n inside white dark closed apart =
     let way = drop n line in
     let first : slice_index line n ≡ get_or way 0 0 = let place : n + 0 ≡ n = omega arith in sym (get_or-drop n line 0 0 ∙ ap (λ i. get_or line i 0) place) in
-    let off = sym (ap (may_open rules side) first) ∙ closed in
-    let parts = or_none _ _ off in
-    let more = or_none _ _ parts.1 in
-    longest_standing rules side line n inside white dark
-    (or_off _ _ (closed_first side way (side_texts rules side) parts.0)
-    (or_off _ _ (closed_first side way (side_spaced rules side) more.0)
-    (closed_first side way (side_repeated rules side) more.1)))
-    apart
+    longest_standing rules side line n inside white dark (closed_there rules side way (sym (ap (may_open rules side) first) ∙ closed)) apart
 
 -- a line of white space alone is a sequence
 module _ (rules : LineRules) (side : Side) (line : List ℕ) (white : (i : ℕ) → i < length line → is_whitespace (slice_index line i) ≡ true) where

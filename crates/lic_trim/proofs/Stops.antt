@@ -1,7 +1,7 @@
 -- Where no piece can begin at a sequence any more, nothing beyond is a sequence.
 use Rattle.std.proofs.Common.{◌≡◌, ℕ, zero, suc, ◌+◌, ◌-◌, ◌<◌, ◌≤◌, Bool, true, false, ◌&&◌, ◌||◌, ◌==◌, List, [], ◌∷◌, length, take, reverse, refl, sym, ap, ◌∙◌, subst, ⊎_elim, arith}
 use Rattle.std.specs.Prelude.{slice_range, slice_index, slice_index_or, bytes_eq}
-use Rattle.std.specs.List.{list_any, All}
+use Rattle.std.specs.List.{list_any}
 use Rattle.std.specs.Char.{is_whitespace}
 use Rattle.std.proofs.lemmas.Bool.{false≢true, and_parts, or_cases, or_left, or_right, cases_Bool, cases_lt}
 use Rattle.std.proofs.lemmas.List.{length-reverse}
@@ -9,7 +9,7 @@ use Rattle.std.proofs.lemmas.Slice.Eq.{bytes_eq-Decides}
 use Rattle.lic_trim.specs.Texts.{is_sequence, ends_in}
 use Rattle.lic_kind.specs.LineRules.{LineRules}
 use Rattle.lic_trim.specs.Lines.{is_space, is_separator, repeats}
-use Rattle.lic_trim.specs.Walks.{Side, walked, is_walked_piece, side_texts, side_spaced, side_repeated, AreSequences, IsStreakFront}
+use Rattle.lic_trim.specs.Walks.{Side, walked, is_walked_piece, side_texts, side_spaced, side_repeated, AreSequences, IsStreakFront, AreShort}
 use Rattle.lic_trim.proofs.PieceEnds.{length_part, slice_at, separator_parts}
 use Rattle.lic_trim.proofs.KindEnds.{space_parts}
 use Rattle.lic_trim.proofs.SideEnds.{walked_piece, repeats_more}
@@ -31,7 +31,7 @@ any_from test (x ∷ xs) zero d lt h = or_left (test x) (list_any test xs) h
 any_from test (x ∷ xs) (suc k) d lt h = or_right (test x) (list_any test xs) (any_from test xs k d (omega arith) h)
 
 -- what ends in an element has that and what is before it
-ends_in-length : (last : ℕ → Bool) (t text : List ℕ) → ends_in last (bytes_eq t) text ≡ true → length text ≡ length t + 1
+pub ends_in-length : (last : ℕ → Bool) (t text : List ℕ) → ends_in last (bytes_eq t) text ≡ true → length text ≡ length t + 1
 ends_in-length last t text h = at (reverse text) refl h
   where
     at : (backwards : List ℕ) → reverse text ≡ backwards
@@ -41,12 +41,6 @@ ends_in-length last t text h = at (reverse text) refl h
     at (c ∷ rest) same e =
         let text_is : t ≡ reverse rest = (bytes_eq-Decides t (reverse rest)).0 (and_parts (last c) (bytes_eq t (reverse rest)) e).1 in
         omega (arith, ap length same, length-reverse text, ap length text_is, length-reverse rest)
-
--- the texts of this side have at most this many characters
-pub record AreShort (rules : LineRules) (side : Side) (reach : ℕ) : Type 0 where
-  pub texts : All (λ t. length t ≤ reach) (side_texts rules side)
-  pub spaced : All (λ t. length t ≤ reach) (side_spaced rules side)
-  pub repeated : All (λ t. length t ≤ reach) (side_repeated rules side)
 
 module _ (rules : LineRules) (side : Side) (flags : List Bool) (line : List ℕ) (end longest reach : ℕ)
     (sequences : AreSequences (is_walked_piece rules side) flags line) (count : length flags ≡ end)

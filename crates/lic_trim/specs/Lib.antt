@@ -5,3 +5,4 @@ pub mod Walks
 pub mod PieceLengths
 pub mod Spaces
 pub mod Leads
+pub mod Leaps

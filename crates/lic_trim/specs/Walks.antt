@@ -1,6 +1,6 @@
 -- What the code keeps while it walks over a line from one side.
 use Rattle.std.specs.Prelude.{◌≡◌, ◌≢◌, ℕ, zero, suc, ◌-◌, ◌<◌, ◌≤◌, Bool, true, false, ◌&&◌, ◌||◌, ◌==◌, List, [], ◌∷◌, length, take, reverse, slice_index, slice_index_or, slice_range, bytes_eq}
-use Rattle.std.specs.List.{list_any}
+use Rattle.std.specs.List.{All, list_any}
 use Rattle.std.specs.Char.{is_whitespace}
 use Rattle.lic_trim.specs.Texts.{is_sequence, ends_in}
 use Rattle.lic_kind.specs.LineRules.{LineRules}
@@ -39,6 +39,12 @@ abbrev pub may_open : LineRules → Side → ℕ → Bool
 may_open rules side c = list_any (λ t. opens_in c (walked side t)) (side_texts rules side)
     || (list_any (λ t. opens_in c (walked side t)) (side_spaced rules side)
     || list_any (λ t. opens_in c (walked side t)) (side_repeated rules side))
+
+-- the texts of this side have at most this many characters
+pub record AreShort (rules : LineRules) (side : Side) (reach : ℕ) : Type 0 where
+  pub texts : All (λ t. length t ≤ reach) (side_texts rules side)
+  pub spaced : All (λ t. length t ≤ reach) (side_spaced rules side)
+  pub repeated : All (λ t. length t ≤ reach) (side_repeated rules side)
 
 -- whether this way begins with a text
 abbrev pub begins_with_text : List ℕ → List ℕ → Bool

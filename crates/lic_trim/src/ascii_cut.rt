@@ -1,5 +1,5 @@
 //! What is taken from a line of ASCII: each part is mostly decided by a few of its bytes.
-ghost use Rattle.std.specs.Prelude.{◌≡◌, ◌≢◌, ◌==◌, ◌||◌, ◌+◌, ◌<◌, ◌≤◌, ◌^◌, ℕ, true, false, length, slice_index, IfOk, IfSome, IsAscii, IsTrue};
+ghost use Rattle.std.specs.Prelude.{◌≡◌, ◌≢◌, ◌==◌, ◌||◌, ◌+◌, ◌<◌, ◌≤◌, ◌^◌, ℕ, true, false, length, drop, slice_index, IfOk, IfSome, IsAscii, IsTrue};
 ghost use Rattle.std.specs.List.{position_or_len};
 ghost use Rattle.std.specs.Char.{is_whitespace, is_ascii_digit};
 ghost use Rattle.lic_kind.specs.LineRules.{LineRules, rules_of};
@@ -7,9 +7,10 @@ ghost use Rattle.lic_trim.specs.Leads.{AreLeads};
 ghost use Rattle.lic_trim.specs.Lines.{cut_of, is_item_form, item_length, whole_line};
 ghost use Rattle.lic_trim.specs.Texts.{is_sequence, longest_front};
 ghost use Rattle.lic_trim.specs.Spaces.{TakesSpaces};
-ghost use Rattle.lic_trim.specs.Walks.{walked, is_walked_piece};
+ghost use Rattle.lic_trim.specs.Walks.{walked, is_walked_piece, may_begin_with_any, End};
 
 use crate::ascii_sequences::sequence_by_places;
+use crate::ascii_texts::any_stands;
 use crate::cut::LineCut;
 use crate::item::{is_roman_digit, item_length};
 use crate::leads::Leads;
@@ -17,7 +18,7 @@ use crate::sequences::longest_sequence;
 use crate::side::Side;
 use crate::source::{SourceChar, place};
 use crate::space_sequences::quick_table;
-use lic_kind::Rules;
+use lic_kind::{RuleKind, Rules};
 use std::alloc::{AllocError, Global};
 
 /// The byte at this place of the way.
@@ -29,6 +30,19 @@ pub(crate) fn byte_at(line: &[u8], side: Side, place: usize) -> u8
     match side {
         Side::Front => line[place],
         Side::End => line[line.len() - 1 - place],
+    }
+}
+
+/// The byte after this place of the way, or a blank where there is none.
+#[inline(always)]
+pub(crate) fn byte_after(line: &[u8], side: Side, place: usize) -> u8
+    requires { place < length line.now }
+    ensures { place + 1 < length line.now → result ≡ slice_index (walked side line.now) (place + 1) }
+{
+    if line.len() - place > 1 {
+        byte_at(line, side, place + 1)
+    } else {
+        b' '
     }
 }
 
@@ -63,7 +77,40 @@ fn three_alike(side: Side, line: &[u8], place: usize) -> bool
         && byte_at(line, side, place + 2) == byte
 }
 
-/// How long the longest sequence of pieces is where it is white space alone, as far as the byte after that shows.
+/// Whether no text of a tail is at this place on the way from the line's end, and none begins there in white space.
+fn has_no_tail_text(rules: &Rules, line: &[u8], place: usize) -> bool
+    requires { place < length line.now }
+    ensures { IsTrue result → may_begin_with_any (rules_of rules.now) End (drop place (walked End line.now)) ≡ false }
+{
+    if quick_table(rules, Side::End, ' ') {
+        return false;
+    }
+    if any_stands(Side::End, rules.texts(RuleKind::Tail), line, place) {
+        return false;
+    }
+    if any_stands(Side::End, rules.texts(RuleKind::TailSpace), line, place) {
+        return false;
+    }
+    !any_stands(Side::End, rules.texts(RuleKind::TailRepeat), line, place)
+}
+
+/// Whether no text of this side is at this place of the way, and none begins in white space. Mostly the character there shows it;
+/// many lines end in a character that a text ends in, and have no tail.
+#[inline(always)]
+fn has_no_text(rules: &Rules, side: Side, line: &[u8], place: usize) -> bool
+    requires { place < length line.now }
+    ensures { IsTrue result → may_begin_with_any (rules_of rules.now) side (drop place (walked side line.now)) ≡ false }
+{
+    if !quick_table(rules, side, byte_at(line, side, place) as char) {
+        return true;
+    }
+    match side {
+        Side::Front => false,
+        Side::End => has_no_tail_text(rules, line, place),
+    }
+}
+
+/// How long the longest sequence of pieces is where it is white space alone, as far as the text after that shows.
 #[inline(always)]
 fn space_sequence(rules: &Rules, side: Side, line: &[u8]) -> Option<usize>
     ensures sequence { IfSome result (λ n. n
@@ -80,7 +127,7 @@ fn space_sequence(rules: &Rules, side: Side, line: &[u8]) -> Option<usize>
     if three_alike(side, line, count) {
         return None;
     }
-    if quick_table(rules, side, byte_at(line, side, count) as char) {
+    if !has_no_text(rules, side, line, count) {
         return None;
     }
     Some(count)

@@ -1,19 +1,20 @@
 //! The longest sequence of pieces at a side of a line of ASCII, from one place where a sequence ends to the next.
-ghost use Rattle.std.specs.Prelude.{◌≡◌, ◌≢◌, ◌+◌, ◌<◌, ◌≤◌, ◌&&◌, ◌||◌, ◌==◌, ℕ, suc, true, false, if◌then◌else◌, [], IfSome};
+ghost use Rattle.std.specs.Prelude.{◌≡◌, ◌≢◌, ◌+◌, ◌-◌, ◌^◌, ◌<◌, ◌≤◌, ◌&&◌, ◌||◌, ◌==◌, ℕ, suc, true, false, if◌then◌else◌, [], IfSome, IsTrue};
 ghost use Rattle.std.specs.Prelude.{nat_le, nat_lt, length, take, drop, reverse, slice_index, slice_index_or};
 ghost use Rattle.std.specs.Char.{is_whitespace};
 ghost use Rattle.std.specs.List.{list_any};
 ghost use Rattle.lic_kind.specs.LineRules.{texts_of, rules_of};
 ghost use Rattle.lic_trim.specs.Leads.{AreLeads};
+ghost use Rattle.lic_trim.specs.Leaps.{IsLongStreak, IsLeap};
 ghost use Rattle.lic_trim.specs.PieceLengths.{has_bit, begins_with_length, begins_with_separator, begins_with_spaced, goes_on, AreLengths};
 ghost use Rattle.lic_trim.specs.Texts.{is_sequence, longest_front};
-ghost use Rattle.lic_trim.specs.Walks.{walked, is_walked_piece, side_texts, side_repeated};
+ghost use Rattle.lic_trim.specs.Walks.{walked, is_walked_piece, may_open, side_texts, side_repeated};
 ghost use Rattle.lic_trim.specs.Walks.{End};
 
-use crate::ascii_cut::byte_at;
+use crate::ascii_cut::{byte_after, byte_at};
 use crate::ascii_texts::stands;
 use crate::leads::Leads;
-use crate::sequences::{is_mark, side_spaced};
+use crate::sequences::{is_mark, reach, side_spaced};
 use crate::side::Side;
 use crate::space_sequences::quick_table;
 use lic_kind::{RuleKind, Rules, Texts};
@@ -234,6 +235,9 @@ fn separator_lengths(rules: &Rules, side: Side, line: &[u8], place: usize) -> Op
     ensures { IfSome result (λ mask. (n : ℕ) → has_bit mask n
         ≡ begins_with_separator (rules_of rules.now).separators n (drop place (walked side line.now))) }
 {
+    if byte_after(line, side, place) != byte_at(line, side, place) {
+        return Some(0);
+    }
     if !rules.separators() {
         return Some(0);
     }
@@ -300,6 +304,68 @@ fn next_ends(
     Some((ends | lengths) / 2)
 }
 
+/// Whether white space is here that no text begins with.
+#[inline(always)]
+fn is_blank_at(rules: &Rules, side: Side, line: &[u8], place: usize) -> bool
+    requires { place < length line.now }
+    ensures white { IsTrue result → is_whitespace (slice_index (walked side line.now) place) ≡ true }
+    ensures closed { IsTrue result → may_open (rules_of rules.now) side (slice_index (walked side line.now) place) ≡ false }
+{
+    let c = byte_at(line, side, place) as char;
+    if !c.is_whitespace() {
+        return false;
+    }
+    !quick_table(rules, side, c)
+}
+
+/// The lowest bits.
+#[inline(always)]
+fn below(count: usize) -> u64
+    requires { count < 64 }
+    ensures { result ≡ 2 ^ count - 1 }
+{
+    (1 << count) - 1
+}
+
+/// How many of one same mark are here, where these are a separator whose length no bit gives.
+fn long_streak(rules: &Rules, side: Side, line: &[u8], at: usize) -> Option<usize>
+    requires { at < length line.now }
+    ensures { IfSome result (λ count. IsLongStreak (rules_of rules.now) (walked side line.now) at count) }
+{
+    if byte_after(line, side, at) != byte_at(line, side, at) {
+        return None;
+    }
+    if !rules.separators() {
+        return None;
+    }
+    if !is_mark(byte_at(line, side, at) as char) {
+        return None;
+    }
+    let streak = streak_length(side, line, at);
+    if streak <= LONGEST_SEPARATOR {
+        return None;
+    }
+    Some(streak)
+}
+
+/// Where a long separator is here, a place near its end, and where sequences end from there on: at as many of its last places as a text
+/// can lead out of it from, and at the place after them.
+#[inline(always)]
+fn leap(rules: &Rules, side: Side, line: &[u8], at: usize) -> Option<(usize, u64)>
+    requires { at < length line.now }
+    ensures { IfSome result (λ next. IsLeap (rules_of rules.now) side (walked side line.now) at next.0 next.1) }
+{
+    let streak = long_streak(rules, side, line, at)?;
+    let reach = reach(rules, side);
+    if reach >= LONGEST {
+        return None;
+    }
+    if streak - SHORTEST_SEPARATOR <= reach {
+        return None;
+    }
+    Some((at + (streak - reach - 1), below(reach + 2)))
+}
+
 /// How long the longest sequence of pieces is at this side of a line. Nothing is said where that takes more than looks at the places
 /// where sequences end.
 pub(crate) fn sequence_by_places(
@@ -314,14 +380,29 @@ pub(crate) fn sequence_by_places(
         (walked side line.now)) }
     ensures within { IfSome result (λ n. n ≤ length line.now) }
 {
+    let mut at = 0;
     let mut longest = 0;
     let mut ends = 1u64;
-    for at in 0..line.len() {
+    while at < line.len() {
         if ends == 0 {
             return Some(longest);
         }
+        if ends == 1 {
+            if is_blank_at(rules, side, line, at) {
+                longest = at;
+                at += 1;
+                continue;
+            }
+            if let Some((far, all)) = leap(rules, side, line, at) {
+                at = far;
+                longest = far;
+                ends = all;
+                continue;
+            }
+        }
         longest = latest(ends, at, longest);
         ends = next_ends(rules, leads, side, line, at, ends)?;
+        at += 1;
     }
     Some(latest(ends, line.len(), longest))
 }

@@ -244,7 +244,7 @@ fn longest(texts: &Texts) -> usize
 }
 
 /// How many characters the longest text of this side has.
-fn reach(rules: &Rules, side: Side) -> usize
+pub(crate) fn reach(rules: &Rules, side: Side) -> usize
     ensures texts { All (λ t. length t ≤ result) (side_texts (rules_of rules.now) side) }
     ensures spaced { All (λ t. length t ≤ result) (side_spaced (rules_of rules.now) side) }
     ensures repeated { All (λ t. length t ≤ result) (side_repeated (rules_of rules.now) side) }

@@ -2,7 +2,7 @@
 #![tactic(auto)]
 
 use lic_arguments::ArgumentFault;
-use lic_command::{Progress, Stop, command_with, tell_stop};
+use lic_command::{Progress, Stop, command_with, report_stop};
 use lic_load::wants_memory;
 use lic_stream::Counted;
 use std::env;
@@ -53,7 +53,7 @@ fn main(rt: HostRuntime) -> ExitCode {
     match start(&rt) {
         Ok(status) => ExitCode::from(status),
         Err(stop) => {
-            tell_stop(rt.alloc(), &mut Counted::new(rt.stderr()), &stop);
+            report_stop(rt.alloc(), &mut Counted::new(rt.stderr()), &stop);
             ExitCode::from(2)
         }
     }

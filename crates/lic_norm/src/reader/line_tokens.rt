@@ -10,6 +10,7 @@ ghost use Rattle.lic_norm.specs.Reading.{HasTaken, HasTakenSome, phrases_of};
 ghost use Rattle.lic_norm.specs.Tokens.{first_tokens_of, line_tokens_of};
 
 use crate::reader::characters::read_characters;
+use crate::rewriting::batch::Batch;
 use crate::rewriting::stretch::Stretch;
 use crate::rewriting::{PartBuffers, Rewriting};
 use lic_columns::Lines;
@@ -50,6 +51,8 @@ pub struct LineBuffers {
     part: PartBuffers,
     /// Lines of ASCII.
     lines: Lines,
+    /// Tokens of them that are spelled together.
+    batch: Batch,
 }
 
 impl LineBuffers {
@@ -63,6 +66,7 @@ impl LineBuffers {
                 tokens: Vec::new(alloc),
             },
             lines: Lines::new(alloc),
+            batch: Batch::new(),
         }
     }
 }
@@ -145,7 +149,7 @@ pub fn take_ascii(
     let lines = &mut buffers.lines;
     lines.read(alloc, rules, at, text)?;
     let stretch = Stretch::of(at, lines);
-    rewriting.take_stretch(alloc, &stretch)?;
+    rewriting.take_stretch(alloc, &stretch, &mut buffers.batch)?;
     let count = stretch.len();
     if text.len() > MAX_KEPT {
         *lines = Lines::new(alloc);

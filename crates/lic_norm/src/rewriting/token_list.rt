@@ -1,23 +1,25 @@
 //! Tokens as they are kept.
-ghost use Rattle.std.specs.Prelude.{◌≡◌, ◌<◌, ◌++◌, ◌∷◌, [], All, IsAscii, IsUtf8, length, map, slice_index_or, take, IfOk, OnOk};
+ghost use Rattle.std.specs.Prelude.{◌≡◌, ◌<◌, ◌++◌, ◌∷◌, [], All, IsAscii, IsUtf8, length, map, slice_index_or, take, IfOk, List, OnOk};
 ghost use Rattle.std.specs.String.{string_bytes};
 ghost use Rattle.lic_phrases.specs.Spelling.{blank_if, is_parted, spelled};
 ghost use Rattle.lic_phrases.specs.TokenTexts.{IsTokenText};
 ghost use Rattle.lic_phrases.specs.Waiting.{AreKnown, spanned_in};
 
+use crate::rewriting::batch::COPIED;
 use crate::token::{Span, Token};
 use lic_kind::is_word;
 use lic_phrases::{FinalToken, Phrases, begins_in_word, ends_in_word};
+use simdutf8::compat::from_utf8;
 use std::alloc::{AllocError, Global};
 use std::marker::Model;
 
 /// A token as it is kept: where its text ends in the canonical spelling, and its bytes of the source. Its text begins where
 /// the one before it ends, or after the blank that is there, since no text begins with a blank.
 #[derive(Clone, Copy, Debug)]
-struct Entry {
-    text_end: usize,
-    start: u32,
-    end: u32,
+pub(crate) struct Entry {
+    pub(crate) text_end: usize,
+    pub(crate) start: u32,
+    pub(crate) end: u32,
 }
 
 /// Tokens, with their texts in canonical spelling.
@@ -67,8 +69,16 @@ fn is_parted(spelling: &str, text: &str) -> bool
     is_word(*last as char) & is_word(*first as char)
 }
 
-/// So many bytes are copied at once.
-const COPIED: usize = 16;
+/// Bytes in UTF-8 as a text.
+fn utf8_text(bytes: &[u8]) -> &str
+    requires { IsUtf8 bytes.now }
+    ensures { result.now ≡ bytes.now }
+{
+    match from_utf8(bytes) {
+        Ok(text) => text,
+        Err(_) => unreachable!(),
+    }
+}
 
 /// Adds a text with which these letters begin. Mostly it is short: a copy of a fixed length, of which the end is let go of, takes
 /// less time than one of its length.
@@ -122,7 +132,8 @@ fn add_front(
 impl TokenList {
     ghost use Rattle.lic_norm.specs.Places.{place_end, place_start, texts_of};
     ghost use Rattle.lic_norm.specs.Spans.{AreTokenTexts};
-    ghost use Rattle.lic_norm.specs.Tokens.{reported};
+    ghost use Rattle.lic_norm.specs.Tokens.{TokenValue, reported};
+    ghost use Rattle.lic_norm.specs.Batches.{AreSpelledAfter, HasSpelled};
 
     /// No tokens.
     pub(crate) fn new(alloc: Global) -> TokenList
@@ -217,6 +228,20 @@ impl TokenList {
                 Err(error)
             }
         }
+    }
+
+    /// Adds tokens that were spelled together after these.
+    #[inline(never)]
+    pub(crate) fn add(&mut self, bytes: &[u8], entries: &[Entry]) -> Result<(), AllocError>
+        requires { HasSpelled self.old bytes.now entries.now }
+        ensures { OnOk result ((tokens : List TokenValue)
+            → AreSpelledAfter self.old tokens bytes.now entries.now
+            → self.new ≡ self.old ++ tokens) }
+    {
+        self.spelling.reserve(bytes.len())?;
+        self.entries.extend_from_slice(entries)?;
+        self.spelling.push_str(utf8_text(bytes))?;
+        Ok(())
     }
 
     /// Adds tokens as the rewriting gives them.

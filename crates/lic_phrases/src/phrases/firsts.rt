@@ -12,6 +12,9 @@ const BYTES: usize = 256;
 /// The bit of a mask that is for texts of so many bytes and more.
 const LONG: usize = 63;
 
+/// The bits for texts of two bytes and more.
+const TWO_AND_MORE: u64 = u64::MAX - 3;
+
 /// For each text that begins a phrase, how many tokens such a phrase has at most.
 #[derive(Drop)]
 pub(crate) struct Firsts {
@@ -45,12 +48,12 @@ fn add(lengths: &mut [u64; BYTES], text: &str)
     lengths[bytes[0] as usize] |= 1 << bytes.len().min(LONG);
 }
 
-/// Adds all bits for a first byte.
-fn add_all(lengths: &mut [u64; BYTES], first: u8)
-    ensures added { (rest : List ℕ) → may_have lengths.new (first ∷ rest) ≡ true }
+/// Adds all bits for a first byte but that of this byte alone.
+fn add_longer(lengths: &mut [u64; BYTES], first: u8)
+    ensures added { (next : ℕ) (rest : List ℕ) → may_have lengths.new (first ∷ next ∷ rest) ≡ true }
     ensures grows { (t : List ℕ) → may_have lengths.old t ≡ true → may_have lengths.new t ≡ true }
 {
-    lengths[first as usize] = u64::MAX;
+    lengths[first as usize] |= TWO_AND_MORE;
 }
 
 /// The prefilter where no text begins a phrase.
@@ -58,8 +61,8 @@ fn no_lengths() -> [u64; BYTES]
     ensures { HasOthers result }
 {
     let mut lengths = [0; BYTES];
-    add_all(&mut lengths, b'\'');
-    add_all(&mut lengths, b'-');
+    add_longer(&mut lengths, b'\'');
+    add_longer(&mut lengths, b'-');
     add(&mut lengths, "(");
     add(&mut lengths, "copyright");
     add(&mut lengths, "https");

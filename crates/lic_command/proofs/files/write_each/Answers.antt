@@ -1,9 +1,9 @@
 use Rattle.std.proofs.Common.{rules, [], ◌<◌, ◌+◌, length, map, take, refl, subst, sym}
 use Rattle.lic_command.specs.Lines.{AreWritten}
 use Rattle.lic_command.specs.Lines.AreWritten.{no_file}
-use Rattle.lic_command.specs.Telling.{AreTold}
-use Rattle.lic_command.specs.Telling.AreTold.{nothing}
-use Rattle.lic_command.proofs.LineLemmas.{begun, counts_more, told_more, written_more}
+use Rattle.lic_command.specs.Reporting.{AreReported}
+use Rattle.lic_command.specs.Reporting.AreReported.{nothing}
+use Rattle.lic_command.proofs.LineLemmas.{begun, counts_more, reported_more, written_more}
 use Rattle.lic_command.proofs.files.write_each.Goals as goal
 
 pub loop-done-init : goal.loop-done-init
@@ -15,10 +15,10 @@ loop-done-preserved g c =
     let before = c.loop-done.invariant in (
       _,
       written_more _ c.args.work c.args.files.names.now c.loop-done.done _ within before.1 c.in_ok-answer.ensures.written c.with_one_more-written.ensures,
-      (λ hidden. told_more before.0 _ _
-          (subst (λ err. AreTold (g.E.Sink.taken c.args.err.now) (g.E.Sink.failed c.args.err.now) before.0 (g.E.Sink.taken err) (g.E.Sink.failed err))
+      (λ hidden. reported_more before.0 _ _
+          (subst (λ err. AreReported (g.E.Sink.taken c.args.err.now) (g.E.Sink.failed c.args.err.now) before.0 (g.E.Sink.taken err) (g.E.Sink.failed err))
           (sym (c.show.ensures.hidden hidden)) (before.2 hidden))
-          (c.in_ok-report_refusal.ensures.told hidden)),
+          (c.in_ok-report_refusal.ensures.reported hidden)),
       counts_more _ c.in_ok-answer.ensures.writes before.3 c.in_ok-report_refusal.ensures.ok,
     )
 

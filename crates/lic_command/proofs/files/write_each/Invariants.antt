@@ -1,6 +1,6 @@
 use Rattle.std.proofs.Common.{◌≡◌, ℕ, List, map, take}
 use Rattle.lic_command.specs.Lines.{AreWritten}
-use Rattle.lic_command.specs.Telling.{AreTold}
+use Rattle.lic_command.specs.Reporting.{AreReported}
 use Rattle.lic_command.specs.declared.progress.Progress.TheVariants.{Hidden}
 use Rattle.lic_command.proofs.files.write_each.Given as goal
 
@@ -10,5 +10,5 @@ invariant-loop-done g l =
     (refused : List (List ℕ))
     × AreWritten l.fn.work (g.W.Sink.taken l.initial.out) (map (λ name. name.now) (take l.done l.fn.files.names.now)) refused (g.W.Sink.taken l.out) l.written
     × (l.fn.files.progress ≡ Hidden
-    → AreTold (g.E.Sink.taken l.initial.err) (g.E.Sink.failed l.initial.err) refused (g.E.Sink.taken l.err) (g.E.Sink.failed l.err))
+    → AreReported (g.E.Sink.taken l.initial.err) (g.E.Sink.failed l.initial.err) refused (g.E.Sink.taken l.err) (g.E.Sink.failed l.err))
     × (g.W.Sink.failed l.out ≡ g.W.Sink.failed l.initial.out)

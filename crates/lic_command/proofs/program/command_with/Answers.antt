@@ -7,4 +7,4 @@ returns-clause-done g c =
     ended _ _ _ _ _ _ _ _ c.args.progress c.status_at_end.result c.try_command-outcome.result c.try_command-outcome.ensures.done c.status_at_end.ensures.done
     (λ s is. let silent = c.status_at_end.ensures.silent s is in (ap g.E.Sink.taken silent, ap g.E.Sink.failed silent))
     c.status_at_end.ensures.stopped
-    (λ error. let told = c.status_at_end.ensures.reported error in (g.E.Sink.taken c.try_command-outcome.new.err, g.E.Sink.failed c.try_command-outcome.new.err, told.0, told.1))
+    (λ error. let reported = c.status_at_end.ensures.reported error in (g.E.Sink.taken c.try_command-outcome.new.err, g.E.Sink.failed c.try_command-outcome.new.err, reported.0, reported.1))

@@ -1,7 +1,7 @@
 use Rattle.std.proofs.Common.{◌↔◌, IsTrue, slice_index_or, subst}
 use Rattle.lic_set.specs.Sets.{words_of}
 use Rattle.lic_words.specs.Describing.{IsDescribed}
-use Rattle.lic_report.specs.Checking.{all_letters}
+use Rattle.lic_set.specs.Matches.{all_letters}
 use Rattle.lic_engine.proofs.checking.describes_original.Goals as goal
 
 pub returns-clause-yes : goal.returns-clause-yes

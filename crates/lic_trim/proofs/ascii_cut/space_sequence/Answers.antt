@@ -1,20 +1,17 @@
-use Rattle.std.proofs.Common.{◌≡◌, ◌∙◌, length, sym, ap, arith}
+use Rattle.std.proofs.Common.{◌≡◌, ◌∙◌, length, arith}
 use Rattle.lic_kind.specs.LineRules.{rules_of}
-use Rattle.lic_trim.specs.Walks.{walked, may_open}
-use Rattle.lic_trim.proofs.SpaceSequences.{longest_spaces, longest_of_spaces}
+use Rattle.lic_trim.specs.Walks.{walked}
+use Rattle.lic_trim.proofs.SpaceSequences.{longest_standing, longest_of_spaces}
 use Rattle.lic_trim.proofs.Walking.{length-walked}
 use Rattle.lic_trim.proofs.ascii_cut.space_sequence.Goals as goal
 
 pub returns-clause-sequence : goal.returns-clause-sequence
 returns-clause-sequence c =
-    let rules = rules_of c.args.rules.now in
     let side = c.args.side in
-    let line = walked side c.args.line.now in
-    let n = c.spaces-count.result in
     let many = length-walked side c.args.line.now in
     let known = c.spaces-count.ensures in
-    longest_spaces rules side line n (omega arith) known.all (known.stop (omega arith))
-    (ap (may_open rules side) (sym c.byte_at.ensures) ∙ c.quick_table.ensures c.if-quick_table.false)
+    longest_standing (rules_of c.args.rules.now) side (walked side c.args.line.now) c.spaces-count.result (omega arith) known.all (known.stop (omega arith))
+    (c.has_no_text.ensures c.if-not-has_no_text.false)
     (λ lt. c.three_alike.ensures c.if-three_alike.false (omega arith))
 
 pub returns-then-count-line-clause-sequence : goal.returns-then-count-line-clause-sequence

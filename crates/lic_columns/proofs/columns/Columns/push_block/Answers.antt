@@ -1,6 +1,6 @@
 use Rattle.std.proofs.Common.{◌≡◌, ◌++◌, take, ap, ◌∙◌, rules}
 use Rattle.std.proofs.lemmas.List.{take-map}
-use Rattle.lic_columns.specs.Bytes.{letter, is_word, is_mark, is_feed, is_high}
+use Rattle.lic_columns.specs.Bytes.{letter, is_word, is_mark, is_feed}
 use Rattle.lic_columns.specs.Flags.{bits_of}
 use Rattle.lic_columns.specs.Known.{followed_by, known_of}
 use Rattle.lic_columns.proofs.KnownLemmas.{blank_is_none, part_fits, part_bits, same_known}
@@ -18,10 +18,6 @@ pub push-requires-3-clause-below : goal.push-requires-3-clause-below
 push-requires-3-clause-below c =
     part_fits is_feed blank_is_none.2 c.args.bytes c.fits-bytes.0 c.args.count c.requires.count c.requires.blank _ c.read_block-block.ensures.feed
 
-pub push-requires-4-clause-below : goal.push-requires-4-clause-below
-push-requires-4-clause-below c =
-    part_fits is_high blank_is_none.3 c.args.bytes c.fits-bytes.0 c.args.count c.requires.count c.requires.blank _ c.read_block-block.ensures.high
-
 pub returns : goal.returns
 returns c =
     let bytes = c.args.bytes in
@@ -32,11 +28,9 @@ returns c =
     let word : c.push.new.self ≡ inside.word ++ bits_of count block.result.word = search rules in
     let mark : c.push-2.new.self ≡ inside.mark ++ bits_of count block.result.mark = search rules in
     let feed : c.push-3.new.self ≡ inside.feed ++ bits_of count block.result.feed = search rules in
-    let high : c.push-4.new.self ≡ inside.high ++ bits_of count block.result.high = search rules in
     same_known
     (letters ∙ ap (λ l. inside.letters.items ++ l) (ap (take count) block.ensures.letters ∙ take-map letter count bytes))
     (word ∙ ap (λ l. inside.word ++ l) (part_bits is_word blank_is_none.0 bytes c.fits-bytes.0 count c.requires.count c.requires.blank _ block.ensures.word))
     (mark ∙ ap (λ l. inside.mark ++ l) (part_bits is_mark blank_is_none.1 bytes c.fits-bytes.0 count c.requires.count c.requires.blank _ block.ensures.mark))
     (feed ∙ ap (λ l. inside.feed ++ l) (part_bits is_feed blank_is_none.2 bytes c.fits-bytes.0 count c.requires.count c.requires.blank _ block.ensures.feed))
-    (high ∙ ap (λ l. inside.high ++ l) (part_bits is_high blank_is_none.3 bytes c.fits-bytes.0 count c.requires.count c.requires.blank _ block.ensures.high))
     ∙ ap (λ k. followed_by k (known_of (take count bytes))) c.self.view_is

@@ -1,15 +1,16 @@
-use Rattle.std.proofs.Common.{◌≡◌, length, ap, ap₂, sym, ◌∙◌, subst}
+use Rattle.std.proofs.Common.{◌≡◌, length, map, ap, ap₂, sym, ◌∙◌, subst}
 use Rattle.std.specs.Prelude.{IsAscii, string_bytes}
 use Rattle.lic_kind.specs.LineRules.{rules_of}
+use Rattle.lic_columns.specs.Bytes.{letter}
 use Rattle.lic_columns.specs.Cells.{starts_of, ends_of}
 use Rattle.lic_columns.specs.Edges.{byte_lines, lines_blanked}
 use Rattle.lic_columns.specs.Known.{IsText, known_of}
 use Rattle.lic_columns.specs.Tokens.{text_spans}
-use Rattle.lic_columns.proofs.ReadLines.{cleared_text, cleared_ascii, letters_of_text, letters_are_ascii, as_long, paired, bounds, tokens_of_text}
+use Rattle.lic_columns.proofs.ReadLines.{cleared_text, cleared_letters, cleared_ascii, letters_of_text, letters_are_ascii, as_long, paired, bounds, tokens_of_text}
 use Rattle.lic_columns.proofs.lines.Lines.read.Goals as goal
 
-pub put_spans-requires-clause-text : goal.put_spans-requires-clause-text
-put_spans-requires-clause-text c =
+pub list_tokens-requires-clause-text : goal.list_tokens-requires-clause-text
+list_tokens-requires-clause-text c =
     let rules = rules_of c.args.rules.now in
     let text = c.args.text.now in
     let same : c.as_bytes-bytes.result.now ≡ text = c.as_bytes-bytes.ensures.value in
@@ -17,6 +18,16 @@ put_spans-requires-clause-text c =
     let is : known ≡ lines_blanked rules 0 (byte_lines text) (known_of text) =
     c.in_ok-clear_lines.ensures ∙ ap (λ l. lines_blanked rules 0 (byte_lines l) (known_of l)) same in
     subst (λ l. IsText (length l) known) (sym same) (cleared_text rules c.args.at text known is)
+
+pub list_tokens-requires-clause-letters : goal.list_tokens-requires-clause-letters
+list_tokens-requires-clause-letters c =
+    let rules = rules_of c.args.rules.now in
+    let text = c.args.text.now in
+    let same : c.as_bytes-bytes.result.now ≡ text = c.as_bytes-bytes.ensures.value in
+    let known = c.clear_lines.new.columns in
+    let is : known ≡ lines_blanked rules 0 (byte_lines text) (known_of text) =
+    c.in_ok-clear_lines.ensures ∙ ap (λ l. lines_blanked rules 0 (byte_lines l) (known_of l)) same in
+    cleared_letters rules c.args.at text known is ∙ ap (map letter) (sym same)
 
 pub put_letters-requires : goal.put_letters-requires
 put_letters-requires c =
@@ -38,13 +49,13 @@ returns c =
     let is : known ≡ lines_blanked rules 0 (byte_lines text) (known_of text) =
     c.in_ok-clear_lines.ensures ∙ ap (λ l. lines_blanked rules 0 (byte_lines l) (known_of l)) same in
     let letters = string_bytes c.put_letters.new.text in
-    let starts = c.put_spans.new.starts.items in
-    let ends = c.put_spans.new.ends.items in
+    let starts = c.list_tokens.new.starts in
+    let ends = c.list_tokens.new.ends in
     let letters_are : letters ≡ known.letters = c.in_ok-put_letters.ensures ∙ c.letters.ensures in
     let starts_are : starts ≡ starts_of (text_spans rules.separators at text known) =
-    c.in_ok-put_spans.ensures.starts ∙ ap₂ (λ s l. starts_of (text_spans s at l known)) c.separators.ensures same in
+    c.in_ok-list_tokens.ensures.starts ∙ ap₂ (λ s l. starts_of (text_spans s at l known)) c.separators.ensures same in
     let ends_are : ends ≡ ends_of (text_spans rules.separators at text known) =
-    c.in_ok-put_spans.ensures.ends ∙ ap₂ (λ s l. ends_of (text_spans s at l known)) c.separators.ensures same in
+    c.in_ok-list_tokens.ensures.ends ∙ ap₂ (λ s l. ends_of (text_spans s at l known)) c.separators.ensures same in
     record {
       letters = letters_of_text rules at text known is letters starts ends letters_are starts_are ends_are;
       ascii = letters_are_ascii rules at text known is letters starts ends letters_are starts_are ends_are c.requires.ascii;

@@ -8,10 +8,10 @@ returns c = record {
   sign = c.add-3.ensures.grows (codes "copyright") c.add-2.ensures.added;
   address = c.add-3.ensures.added;
   parenthesis = c.add-3.ensures.grows (codes "(") (c.add-2.ensures.grows (codes "(") c.add.ensures.added);
-  apostrophe = λ rest.
-      let text = 0x27 ∷ rest in
-      c.add-3.ensures.grows text (c.add-2.ensures.grows text (c.add.ensures.grows text (c.add_all-2.ensures.grows text (c.add_all.ensures.added rest))));
-  hyphen = λ rest.
-      let text = 0x2D ∷ rest in
-      c.add-3.ensures.grows text (c.add-2.ensures.grows text (c.add.ensures.grows text (c.add_all-2.ensures.added rest)));
+  apostrophe = λ next rest.
+      let text = 0x27 ∷ next ∷ rest in
+      c.add-3.ensures.grows text (c.add-2.ensures.grows text (c.add.ensures.grows text (c.add_longer-2.ensures.grows text (c.add_longer.ensures.added next rest))));
+  hyphen = λ next rest.
+      let text = 0x2D ∷ next ∷ rest in
+      c.add-3.ensures.grows text (c.add-2.ensures.grows text (c.add.ensures.grows text (c.add_longer-2.ensures.added next rest)));
 }

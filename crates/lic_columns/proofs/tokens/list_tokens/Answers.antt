@@ -1,0 +1,79 @@
+use Rattle.std.proofs.Common.{◌≡◌, ℕ, suc, ◌+◌, ◌*◌, ◌≤◌, ◌++◌, length, refl, ap, ◌∙◌, arith, rules}
+use Rattle.lic_columns.specs.Cells.{cells_of, firsts, lasts, spans, starts_of, ends_of}
+use Rattle.lic_columns.specs.Cells.{Blank}
+use Rattle.lic_columns.specs.Flags.{bits_of}
+use Rattle.lic_columns.specs.Marks.{joined_marks, kept_in}
+use Rattle.lic_columns.specs.Masks.{IsColumn}
+use Rattle.lic_columns.specs.Places.{places}
+use Rattle.lic_columns.proofs.BitLemmas.{has_bit_zero}
+use Rattle.lic_columns.proofs.CellLemmas.{length-cells, length-firsts, length-lasts}
+use Rattle.lic_columns.proofs.ColumnLemmas.{ends_before}
+use Rattle.lic_columns.proofs.Listed.{one_column_more, starts_listed, ends_listed}
+use Rattle.lic_columns.proofs.TextLemmas.{text_is, text_has_cells}
+use Rattle.lic_columns.proofs.tokens.list_tokens.Goals as goal
+
+pub loop-k-init : goal.loop-k-init
+loop-k-init c = record {
+  cells = text_has_cells (length c.args.bytes.now) c.args.columns.now c.requires.text c.args.separators c.args.bytes.now c.word-words.result.now c.mark-marks.result.now
+      c.letters-letters.result.now c.word-words.ensures c.mark-marks.ensures c.letters-letters.ensures;
+  starts = c.start.ensures;
+  ends = c.start-2.ensures;
+  carried = c.next-here.ensures.carried;
+  before = record { last = has_bit_zero 63 };
+  word = record { bit = c.column-word.ensures };
+  kept = c.next-here.ensures.kept;
+  joined = c.next-here.ensures.joined;
+}
+
+pub loop-k-preserved : goal.loop-k-preserved
+loop-k-preserved c =
+    let is = c.loop-k.invariant in
+    let words = c.word-words.result.now in
+    let kept = kept_in c.args.separators c.args.bytes.now c.mark-marks.result.now in
+    let joined = joined_marks c.letters-letters.result.now kept in
+    let at : ℕ = c.args.at in
+    let k : ℕ = c.loop-k.k in
+    let cells = cells_of words kept joined in
+    let next : IsColumn c.column-after.result words (k + 1) = record { bit = c.column-after.ensures } in
+    let first = c.first_places.ensures words kept joined k is.cells is.before is.word is.kept is.joined in
+    let last = c.last_places.ensures words kept joined k is.cells is.word next is.kept is.joined c.next-next.ensures.joined in
+    let room : k * 64 ≤ length cells = omega (arith, length-cells words kept joined is.cells, c.count-k-end.ensures, c.loop-k-test.true) in
+    let here : at + k * 64 + 1 ≡ suc at + k * 64 = omega arith in
+    let start : c.put.new.self ≡ c.loop-k.starts ++ places (at + k * 64) (bits_of 64 c.first_places.result) = search rules in
+    let end : c.put-in-loop-k.new.self ≡ c.loop-k.ends ++ places (at + k * 64 + 1) (bits_of 64 c.last_places.result) = search rules in
+    record {
+      cells = is.cells;
+      starts = one_column_more _ _ at k (at + k * 64) c.first_places.result (firsts Blank cells) is.starts refl start (omega (arith, room, length-firsts Blank cells)) first;
+      ends = one_column_more _ _ (suc at) k (at + k * 64 + 1) c.last_places.result (lasts cells) is.ends here end (omega (arith, room, length-lasts cells)) last;
+      carried = c.next-next.ensures.carried;
+      before = ends_before c.loop-k.word k words is.word;
+      word = next;
+      kept = c.next-next.ensures.kept;
+      joined = c.next-next.ensures.joined;
+    }
+
+pub returns-clause-starts : goal.returns-clause-starts
+returns-clause-starts c =
+    let is = c.loop-k.invariant in
+    let words = c.word-words.result.now in
+    let kept = kept_in c.args.separators c.args.bytes.now c.mark-marks.result.now in
+    let joined = joined_marks c.letters-letters.result.now kept in
+    let at : ℕ = c.args.at in
+    let k : ℕ = c.loop-k.k in
+    is.starts ∙ starts_listed at words kept joined is.cells (k * 64) (omega (arith, c.count-k-end.ensures, c.loop-k-test.false))
+    ∙ ap (λ l. starts_of (spans at l))
+    (text_is (length c.args.bytes.now) c.args.columns.now c.requires.text c.args.separators c.args.bytes.now words c.mark-marks.result.now
+    c.letters-letters.result.now c.word-words.ensures c.mark-marks.ensures c.letters-letters.ensures)
+
+pub returns-clause-ends : goal.returns-clause-ends
+returns-clause-ends c =
+    let is = c.loop-k.invariant in
+    let words = c.word-words.result.now in
+    let kept = kept_in c.args.separators c.args.bytes.now c.mark-marks.result.now in
+    let joined = joined_marks c.letters-letters.result.now kept in
+    let at : ℕ = c.args.at in
+    let k : ℕ = c.loop-k.k in
+    is.ends ∙ ends_listed at words kept joined is.cells (k * 64) (omega (arith, c.count-k-end.ensures, c.loop-k-test.false))
+    ∙ ap (λ l. ends_of (spans at l))
+    (text_is (length c.args.bytes.now) c.args.columns.now c.requires.text c.args.separators c.args.bytes.now words c.mark-marks.result.now
+    c.letters-letters.result.now c.word-words.ensures c.mark-marks.ensures c.letters-letters.ensures)
