@@ -110,6 +110,7 @@ SENTENCES = [
     ("It is not licensed under the MIT License", ["no-grant-mention"], []),
     ("a GPL-compatible licence", ["no-grant-mention"], []),
     ("Compare the MIT License", [], ["MIT-mention"]),
+    ("License: Redistribution and use in source and binary forms, with or without modification, are permitted", ["BSD", "no-grant-mention"], []),
     ("the new BSD limits", [], []),
     ("emit limit transmit", [], []),
     ("its GPL code", [], []),

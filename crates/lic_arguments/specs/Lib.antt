@@ -1,3 +1,4 @@
 pub mod After
 pub mod Arguments
+pub mod CommandLine
 pub mod Options

@@ -3,8 +3,10 @@
 
 mod after;
 mod arguments;
+mod command_line;
 mod fault;
 
 pub use after::{After, Given};
-pub use arguments::{CheckArguments, ScanArguments, TokensArguments, VERSION, ask_of, parse};
+pub use arguments::{CheckArguments, ScanArguments, TokensArguments, ask_of};
+pub use command_line::{VERSION, parse};
 pub use fault::ArgumentFault;

@@ -1,10 +1,12 @@
 -- From what each part has answered to what a command has done.
-use Rattle.std.proofs.Common.{◌≡◌, ◌≢◌, ◌↔◌, ◌||◌, ℕ, ◌<◌, Bool, true, false, codes, List, [], Option, Some, None, Result, Ok, Err, IfOk, IsErr, IsErrAnd, IsSome, IsSomeAnd, length, map, option_map, refl, sym, ap, subst, ◌∙◌}
+use Rattle.std.proofs.Common.{◌≡◌, ◌≢◌, ◌↔◌, ◌||◌, ℕ, ◌<◌, Bool, true, false, codes, List, [], Option, Some, None, Result, Ok, Err, IfOk, IfErr, IsErr, IsErrAnd, IsSome, IsSomeAnd, length, map, option_map, refl, sym, ap, subst, ◌∙◌}
 use Rattle.std.specs.Borrow.{Bor}
 use Rattle.std.specs.List.{list_all}
 use Rattle.std.specs.Io.KnownBytes.{Appends}
 use Rattle.std.proofs.lemmas.List.{length-map}
 use Rattle.clap.specs.Matches.{first_value}
+use Rattle.clap.specs.declared.error.kind.ErrorKind.{ErrorKind}
+use Rattle.clap.specs.declared.error.kind.ErrorKind.TheVariants.{OutOfMemory}
 use Rattle.clap.specs.declared.parser.matches.Found.{Found}
 use Rattle.lic_kind.specs.LineRules.{LineRules, profile, rules_of}
 use Rattle.lic_kind.specs.declared.rules.Rules.{Rules}
@@ -12,6 +14,7 @@ use Rattle.lic_phrases.specs.Rewriting.{Phrase}
 use Rattle.lic_set.specs.Sets.{Known}
 use Rattle.lic_arguments.specs.After.{IsAsGiven}
 use Rattle.lic_arguments.specs.Arguments.{IsTripleOf}
+use Rattle.lic_arguments.specs.CommandLine.{IsNoCall}
 use Rattle.lic_arguments.specs.Options.{IsFlag, IsGiven, IsLimit, files_in}
 use Rattle.lic_arguments.specs.declared.after.After.{After}
 use Rattle.lic_arguments.specs.declared.after.Given.{Given}
@@ -30,7 +33,7 @@ use Rattle.lic_command.specs.Lines.{AreWritten}
 use Rattle.lic_command.specs.Outcomes.{CountsStops, StopsForWrites}
 use Rattle.lic_command.specs.Statuses.{IsStatus, IsStatusOfCheck}
 use Rattle.lic_command.specs.Reporting.{AreReported, IsStopReported}
-use Rattle.lic_command.specs.Usage.{IsShown}
+use Rattle.lic_command.specs.Usage.{IsFault, IsShown}
 use Rattle.lic_command.specs.declared.faults.Stop.{Stop}
 use Rattle.lic_command.specs.declared.faults.Stop.TheVariants.{Arguments, Load, Check, Write, Memory}
 use Rattle.lic_command.specs.declared.files.Search.{Search}
@@ -188,22 +191,35 @@ module _ (found : Found) (progress : Progress) (out_old out_new err_old err_new 
   check_done rules words set (Err e) listing is_left_out (Ok s) is report for_rules for_words loaded left_out = absurd is
   check_done rules words set (Err e) listing is_left_out (Err stop) is report for_rules for_words loaded left_out = tt
 
--- help that is shown is help of the program, whatever is shown of its progress
-pub help_ended : (old new err : Option (List ℕ)) (failed_old failed_new failed : ℕ) (text : List ℕ) (r : Result ℕ Stop)
-    → IsShown old new failed_old failed_new text r
-    → IfOk r (λ status. (progress : Progress) → HasEnded progress old new err err failed failed status)
-help_ended old new err failed_old failed_new failed text (Ok status) shown = λ progress. helped text shown.0 refl refl shown.2
-help_ended old new err failed_old failed_new failed text (Err stop) shown = tt
+-- help that is shown is what the arguments asked for, whatever is shown of the program's progress
+pub help_ended : (old new err : Option (List ℕ)) (failed_old failed_new failed : ℕ) (text : List ℕ) (kind : ErrorKind) → ¬ (IsFault kind)
+    → (r : Result ℕ Stop) → IsShown old new failed_old failed_new text r
+    → IfOk r (λ status. (args : List (List ℕ)) → (progress : Progress) → IsNoCall args kind
+    → HasEnded args progress old new err err failed failed status)
+help_ended old new err failed_old failed_new failed text kind help (Ok status) shown =
+    λ args progress no_call. helped kind no_call help text shown.0 refl refl shown.2
+help_ended old new err failed_old failed_new failed text kind help (Err stop) shown = tt
+
+-- what is written for these arguments is for arguments of their kind, but where memory ran out
+pub usage_ended : (out_old out_new err_old err_new : Option (List ℕ)) (failed_old failed_new : ℕ) (args : List (List ℕ)) (progress : Progress)
+    (kind : ErrorKind) (r : Result ℕ Stop) → (kind ≡ OutOfMemory → r ≡ Err Memory) → (kind ≢ OutOfMemory → IsNoCall args kind)
+    → IfOk r (λ status. (args : List (List ℕ)) → (progress : Progress) → IsNoCall args kind
+    → HasEnded args progress out_old out_new err_old err_new failed_old failed_new status)
+    → IfOk r (HasEnded args progress out_old out_new err_old err_new failed_old failed_new)
+usage_ended out_old out_new err_old err_new failed_old failed_new args progress kind (Ok status) memory no_call ended =
+    ended args progress (no_call (λ is. subst (λ (r : Result ℕ Stop). IfErr r (λ stop. ⊥)) (memory is) tt))
+usage_ended out_old out_new err_old err_new failed_old failed_new args progress kind (Err stop) memory no_call ended = tt
 
 -- what the program has done follows from what its work has done, or from the last line
-pub ended : (out_old out_new err_old err_mid err_new : Option (List ℕ)) (failed_old failed_mid failed_new : ℕ) (progress : Progress) (status : ℕ)
-    (outcome : Result ℕ Stop) → IfOk outcome (HasEnded progress out_old out_new err_old err_mid failed_old failed_mid)
+pub ended : (args : List (List ℕ)) (out_old out_new err_old err_mid err_new : Option (List ℕ)) (failed_old failed_mid failed_new : ℕ)
+    (progress : Progress) (status : ℕ)
+    (outcome : Result ℕ Stop) → IfOk outcome (HasEnded args progress out_old out_new err_old err_mid failed_old failed_mid)
     → ((s : ℕ) → outcome ≡ Ok s → status ≡ s) → ((s : ℕ) → outcome ≡ Ok s → (err_new ≡ err_mid) × (failed_new ≡ failed_mid))
     → (IsErr outcome → status ≡ 2) → (IsErr outcome → IsStopReported err_new failed_new)
-    → HasEnded progress out_old out_new err_old err_new failed_old failed_new status
-ended out_old out_new err_old err_mid err_new failed_old failed_mid failed_new progress status (Ok s) has done same two reported =
-    subst (λ s. HasEnded progress out_old out_new err_old err_new failed_old failed_new s) (sym (done s refl))
-    (subst (λ n. HasEnded progress out_old out_new err_old err_new failed_old n s) (sym (same s refl).1)
-    (subst (λ err. HasEnded progress out_old out_new err_old err failed_old failed_mid s) (sym (same s refl).0) has))
-ended out_old out_new err_old err_mid err_new failed_old failed_mid failed_new progress status (Err stop) has done same two reported =
+    → HasEnded args progress out_old out_new err_old err_new failed_old failed_new status
+ended args out_old out_new err_old err_mid err_new failed_old failed_mid failed_new progress status (Ok s) has done same two reported =
+    subst (λ s. HasEnded args progress out_old out_new err_old err_new failed_old failed_new s) (sym (done s refl))
+    (subst (λ n. HasEnded args progress out_old out_new err_old err_new failed_old n s) (sym (same s refl).1)
+    (subst (λ err. HasEnded args progress out_old out_new err_old err failed_old failed_mid s) (sym (same s refl).0) has))
+ended args out_old out_new err_old err_mid err_new failed_old failed_mid failed_new progress status (Err stop) has done same two reported =
     stopped (reported refl) (two refl)

@@ -1,12 +1,10 @@
 -- What a command has done where its work is done, and what the program has done.
-use Rattle.std.specs.Prelude.{◌≡◌, ◌↔◌, ◌||◌, ℕ, ◌<◌, Bool, true, codes, List, [], length, Option, None, Some, IsSome, option_map}
+use Rattle.std.specs.Prelude.{◌≡◌, ◌↔◌, ◌||◌, ℕ, ◌<◌, Bool, true, codes, List, [], length, Option, None, Some, IsSome}
 use Rattle.std.specs.Borrow.{Bor}
 use Rattle.std.specs.List.{list_all}
 use Rattle.std.specs.Io.KnownBytes.{Appends}
-use Rattle.clap.specs.Matches.{first_value, subcommand_name_of}
-use Rattle.clap.specs.Simple.{subcommand_rows_of}
-use Rattle.clap.specs.Walk.{rows_of}
-use Rattle.clap.specs.declared.parser.matches.ArgMatches.{ArgMatches}
+use Rattle.clap.specs.Matches.{first_value}
+use Rattle.clap.specs.declared.error.kind.ErrorKind.{ErrorKind}
 use Rattle.clap.specs.declared.parser.matches.Found.{Found}
 use Rattle.lic_kind.specs.LineRules.{LineRules, profile, rules_of}
 use Rattle.lic_kind.specs.declared.rules.Rules.{Rules}
@@ -14,6 +12,7 @@ use Rattle.lic_phrases.specs.Rewriting.{Phrase}
 use Rattle.lic_set.specs.Sets.{Known}
 use Rattle.lic_arguments.specs.After.{IsAsGiven}
 use Rattle.lic_arguments.specs.Arguments.{IsTripleOf}
+use Rattle.lic_arguments.specs.CommandLine.{IsCall, IsNoCall}
 use Rattle.lic_arguments.specs.Options.{IsFlag, IsGiven, IsLimit, files_in}
 use Rattle.lic_arguments.specs.declared.after.After.{After}
 use Rattle.lic_arguments.specs.declared.after.Given.{Given}
@@ -25,6 +24,7 @@ use Rattle.lic_load.specs.declared.templates.Listing.{Listing}
 use Rattle.lic_command.specs.Lines.{AreWritten}
 use Rattle.lic_command.specs.Statuses.{IsStatus}
 use Rattle.lic_command.specs.Reporting.{AreReported, IsStopReported}
+use Rattle.lic_command.specs.Usage.{IsFault}
 use Rattle.lic_command.specs.declared.files.Search.{Search}
 use Rattle.lic_command.specs.declared.files.Work.{Work}
 use Rattle.lic_command.specs.declared.files.Work.TheVariants.{Scan, Tokens}
@@ -109,25 +109,25 @@ pub record HasChecked (found : Found) (out_old out_new err_old err_new : Option 
   pub written : Appends out_old out_new lines
   pub ends : IsStatus is_left_out (list_all says_yes checked) status
 
--- the parser found these arguments of the subcommand with this name
-abbrev pub AreOf : ArgMatches → List ℕ → Found → Type 0
-AreOf matches name found = (subcommand_name_of matches ≡ Some name)
-    × (option_map (λ p. p.1) (subcommand_rows_of matches) ≡ Some (rows_of found))
-
--- What the program has done where it ends with this status: it has done the work of the command that was found; or help was asked for and
--- shown; or the arguments are refused, which is reported; or it ends before its work is done, and the last line says why.
-pub data HasEnded (progress : Progress) (out_old out_new err_old err_new : Option (List ℕ)) (failed_old failed_new : ℕ) (status : ℕ) : Type 0 where
-  scanned : (matches : ArgMatches) (found : Found) → AreOf matches (codes "scan") found
+-- What the program has done on these arguments where it ends with this status: they are a call of a command, whose work is done; or they ask
+-- for help or for the version, which is shown; or they are at fault, which is reported; or it ends before its work is done, and the last line
+-- says why.
+pub data HasEnded (args : List (List ℕ)) (progress : Progress) (out_old out_new err_old err_new : Option (List ℕ)) (failed_old failed_new : ℕ)
+    (status : ℕ) : Type 0 where
+  scanned : (found : Found) → IsCall args (codes "scan") found
       → HasScanned found progress out_old out_new err_old err_new failed_old failed_new status
-      → HasEnded progress out_old out_new err_old err_new failed_old failed_new status
-  checked : (matches : ArgMatches) (found : Found) → AreOf matches (codes "check") found
+      → HasEnded args progress out_old out_new err_old err_new failed_old failed_new status
+  checked : (found : Found) → IsCall args (codes "check") found
       → HasChecked found out_old out_new err_old err_new failed_old failed_new status
-      → HasEnded progress out_old out_new err_old err_new failed_old failed_new status
-  listed : (matches : ArgMatches) (found : Found) → AreOf matches (codes "tokens") found
+      → HasEnded args progress out_old out_new err_old err_new failed_old failed_new status
+  listed : (found : Found) → IsCall args (codes "tokens") found
       → HasListed found progress out_old out_new err_old err_new failed_old failed_new status
-      → HasEnded progress out_old out_new err_old err_new failed_old failed_new status
-  helped : (text : List ℕ) → Appends out_old out_new text → err_new ≡ err_old → failed_new ≡ failed_old → status ≡ 0
-      → HasEnded progress out_old out_new err_old err_new failed_old failed_new status
-  refused : (text : List ℕ) → IsReported err_old err_new failed_old failed_new text → out_new ≡ out_old → status ≡ 2
-      → HasEnded progress out_old out_new err_old err_new failed_old failed_new status
-  stopped : IsStopReported err_new failed_new → status ≡ 2 → HasEnded progress out_old out_new err_old err_new failed_old failed_new status
+      → HasEnded args progress out_old out_new err_old err_new failed_old failed_new status
+  helped : (kind : ErrorKind) → IsNoCall args kind → ¬ (IsFault kind)
+      → (text : List ℕ) → Appends out_old out_new text → err_new ≡ err_old → failed_new ≡ failed_old → status ≡ 0
+      → HasEnded args progress out_old out_new err_old err_new failed_old failed_new status
+  refused : (kind : ErrorKind) → IsNoCall args kind → IsFault kind
+      → (text : List ℕ) → IsReported err_old err_new failed_old failed_new text → out_new ≡ out_old → status ≡ 2
+      → HasEnded args progress out_old out_new err_old err_new failed_old failed_new status
+  stopped : IsStopReported err_new failed_new → status ≡ 2
+      → HasEnded args progress out_old out_new err_old err_new failed_old failed_new status

@@ -1,8 +1,9 @@
 //! The whole program.
 
-ghost use Rattle.std.specs.Prelude.{◌≡◌, ◌≢◌, ◌≤◌, ℕ, List, Ok, Err, IfOk};
+ghost use Rattle.std.specs.Prelude.{◌≡◌, ◌≢◌, ◌≤◌, ℕ, List, Ok, Err, IfOk, map};
 ghost use Rattle.clap.specs.Matches.{found_of};
 ghost use Rattle.clap.specs.Values.{kind_of};
+ghost use Rattle.lic_arguments.specs.CommandLine.{IsNoCall};
 ghost use Rattle.lic_load.specs.Reporting.{IsReported};
 ghost use Rattle.lic_command.specs.Commands.{HasChecked, HasEnded, HasListed, HasScanned};
 ghost use Rattle.lic_command.specs.Outcomes.{CountsStops};
@@ -133,7 +134,8 @@ fn show_usage<W: Sink, E: Sink>(
     ensures fault { IsFault (kind_of error.now) → result ≢ Err Stop.Memory → (text : List ℕ)
         × IsReported (E.taken err.old) (E.taken err.new) (E.failed err.old) (E.failed err.new) text
         × (out.new ≡ out.old) × (result ≡ Ok 2) }
-    ensures done { IfOk result (λ status. (progress : Progress) → HasEnded progress (W.taken out.old) (W.taken out.new)
+    ensures done { IfOk result (λ status. (args : List (List ℕ)) → (progress : Progress) → IsNoCall args (kind_of error.now)
+        → HasEnded args progress (W.taken out.old) (W.taken out.new)
         (E.taken err.old) (E.taken err.new) (E.failed err.old) (E.failed err.new) status) }
     ensures writes { CountsStops result (W.failed out.old) (W.failed out.new) }
     // Where memory ran out nothing is written.
@@ -161,15 +163,12 @@ fn try_command<Rt: Files + AllocGlobal + Clone + Drop, R: Source, W: Sink, E: Si
     err: &mut E,
     progress: Progress,
 ) -> Result<u8, Stop>
-    ensures done { IfOk result (HasEnded progress (W.taken out.old) (W.taken out.new)
+    ensures done { IfOk result (HasEnded (map (λ a. a.now) args.now) progress (W.taken out.old) (W.taken out.new)
         (E.taken err.old) (E.taken err.new) (E.failed err.old) (E.failed err.new)) }
     ensures writes { CountsStops result (W.failed out.old) (W.failed out.new) }
     ensures few { IfOk result (λ status. status ≤ 2) }
 {
-    let mut words = Vec::new(alloc);
-    words.push("licscan")?;
-    words.extend_from_slice(args)?;
-    match parse(alloc, words.as_slice()) {
+    match parse(alloc, args) {
         Ok(matches) => {
             if let Some(found) = matches.subcommand_matches("scan") {
                 scan(rt, alloc, found, input, out, err, progress)
@@ -197,7 +196,7 @@ pub fn command<Rt: Files + AllocGlobal + Clone + Drop, R: Source, W: Sink, E: Si
     out: &mut W,
     err: &mut E,
 ) -> u8
-    ensures done { HasEnded Progress.Hidden (W.taken out.old) (W.taken out.new)
+    ensures done { HasEnded (map (λ a. a.now) args.now) Progress.Hidden (W.taken out.old) (W.taken out.new)
         (E.taken err.old) (E.taken err.new) (E.failed err.old) (E.failed err.new) result }
     // A write to standard output that failed ends it with 2.
     ensures sound { result ≢ 2 → W.failed out.new ≡ W.failed out.old }
@@ -216,7 +215,7 @@ pub fn command_with<Rt: Files + AllocGlobal + Clone + Drop, R: Source, W: Sink, 
     err: &mut E,
     progress: Progress,
 ) -> u8
-    ensures done { HasEnded progress (W.taken out.old) (W.taken out.new)
+    ensures done { HasEnded (map (λ a. a.now) args.now) progress (W.taken out.old) (W.taken out.new)
         (E.taken err.old) (E.taken err.new) (E.failed err.old) (E.failed err.new) result }
     // A write to standard output that failed ends it with 2.
     ensures sound { result ≢ 2 → W.failed out.new ≡ W.failed out.old }

@@ -1,24 +1,28 @@
 use Rattle.std.proofs.Common.{refl}
 use Rattle.std.proofs.lemmas.Result.{IfOk-weaker}
 use Rattle.clap.specs.Matches.{found_of}
+use Rattle.lic_arguments.proofs.CommandLemmas.{called}
 use Rattle.lic_command.specs.Commands.HasEnded.{checked, listed, scanned}
+use Rattle.lic_command.proofs.CommandLemmas.{usage_ended}
 use Rattle.lic_command.proofs.program.try_command.Goals as goal
 
 pub returns-in-Some-clause-done : goal.returns-in-Some-clause-done
 returns-in-Some-clause-done g c =
-    IfOk-weaker c.scan.result _ _ (λ status has. scanned _ (found_of c.in-Some.found.now) (c.in-Some.ensures.found.0 refl, c.in-Some.ensures.rows) has) c.scan.ensures.done
+    IfOk-weaker c.scan.result _ _ (λ status has. scanned (found_of c.in-Some.found.now)
+    (called _ _ _ _ c.in-Ok.ensures.found (c.in-Some.ensures.found.0 refl) c.in-Some.ensures.rows) has) c.scan.ensures.done
 
 pub returns-in-Some-subcommand_matches-clause-done : goal.returns-in-Some-subcommand_matches-clause-done
 returns-in-Some-subcommand_matches-clause-done g c =
     IfOk-weaker c.check_templates.result _ _
-    (λ status has. checked _ (found_of c.in-Some-subcommand_matches.found.now)
-    (c.in-Some-subcommand_matches.ensures.found.0 refl, c.in-Some-subcommand_matches.ensures.rows) has) c.check_templates.ensures.done
+    (λ status has. checked (found_of c.in-Some-subcommand_matches.found.now)
+    (called _ _ _ _ c.in-Ok.ensures.found (c.in-Some-subcommand_matches.ensures.found.0 refl) c.in-Some-subcommand_matches.ensures.rows) has) c.check_templates.ensures.done
 
 pub returns-in-Some-subcommand_matches-2-clause-done : goal.returns-in-Some-subcommand_matches-2-clause-done
 returns-in-Some-subcommand_matches-2-clause-done g c =
     IfOk-weaker c.tokens.result _ _
-    (λ status has. listed _ (found_of c.in-Some-subcommand_matches-2.found.now)
-    (c.in-Some-subcommand_matches-2.ensures.found.0 refl, c.in-Some-subcommand_matches-2.ensures.rows) has) c.tokens.ensures.done
+    (λ status has. listed (found_of c.in-Some-subcommand_matches-2.found.now)
+    (called _ _ _ _ c.in-Ok.ensures.found (c.in-Some-subcommand_matches-2.ensures.found.0 refl) c.in-Some-subcommand_matches-2.ensures.rows) has) c.tokens.ensures.done
 
 pub returns-clause-done : goal.returns-clause-done
-returns-clause-done g c = IfOk-weaker c.show_usage.result _ _ (λ status has. has c.args.progress) c.show_usage.ensures.done
+returns-clause-done g c =
+    usage_ended _ _ _ _ _ _ _ c.args.progress _ c.show_usage.result c.show_usage.ensures.memory c.in-Err.ensures.fault c.show_usage.ensures.done
