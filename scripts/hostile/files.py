@@ -94,7 +94,7 @@ def of_names():
             yield Case(group, f'a template named {name[:12]!r}', ALL, {path: b'foo bar'}, given=b'foo bar', out=b'-\t' + shown + b'\t0\t1\t0\t7\n')
             yield Case(group, f'a refused template named {name[:12]!r}', SCAN, {path: b' '}, given=b'foo bar', status=2, out=b'',
                        err=b'licscan: template ' + shown + b': M10 at 0: no letter in it\n')
-    yield Case(group, 'a file name that is no UTF-8', ALL + [b'\xff'], {**FOO, b'\xff': b'foo bar'}, status=2, out=b'', err=b'licscan: an argument is not UTF-8\n')
+    yield Case(group, 'a file name that is no UTF-8', ALL + [b'\xff'], {**FOO, b'\xff': b'foo bar'}, status=2, out=b'', err=b'licscan: argument 5 is not UTF-8\n')
     yield Case(group, 'template names that are no UTF-8', ALL, {**FOO, b'T/\xff.template.txt': b'x', b'T/\xc3': b'x'}, given=b'foo bar', status=2, out=b'-' + FOUND,
                err=b'licscan: templates: a file name is not UTF-8\n' * 2)
     yield Case(group, 'an identifier of --after with a line end', ALL + ['--after', '0:0:a\nb'], FOO, given=b'foo bar', status=2, out=b'',

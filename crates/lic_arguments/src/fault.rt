@@ -10,8 +10,8 @@ use thiserror::Error;
 /// What is wrong with the arguments, where their parser accepts them.
 #[derive(Debug, Drop, Error)]
 pub enum ArgumentFault {
-    #[error("an argument is not UTF-8")]
-    NotUtf8,
+    #[error("argument {number} is not UTF-8")]
+    NotUtf8 { number: usize },
     #[error("no command")]
     NoCommand,
     #[error("--after needs --all")]

@@ -5,17 +5,37 @@ use lic_arguments::ArgumentFault;
 use lic_command::{Progress, Stop, command_with, report_stop};
 use lic_load::wants_memory;
 use lic_stream::Counted;
+use std::alloc::AllocError;
 use std::env;
+use std::env::{Env, FillError};
 use std::io::IsTerminal;
 use std::process::ExitCode;
+use std::str::from_utf8;
 
 /// The words after the program's name.
 fn words_given(rt: &HostRuntime) -> Result<Vec<String>, Stop> {
     match env::args(rt) {
         Ok(words) => Ok(words.skip(1).collect(rt.alloc())?),
         Err(e) if wants_memory(&e) => Err(Stop::Memory),
-        Err(_) => Err(Stop::Arguments(ArgumentFault::NotUtf8)),
+        Err(_) => {
+            let number = first_not_utf8(rt)?;
+            Err(Stop::Arguments(ArgumentFault::NotUtf8 { number }))
+        }
     }
+}
+
+/// The number of the first word that is not UTF-8, the first after the program's name being 1.
+fn first_not_utf8(rt: &HostRuntime) -> Result<usize, AllocError> {
+    let mut number = 1usize;
+    let mut word = vec![in rt.alloc(); 0u8; 4096]?;
+    for _ in 0..usize::MAX {
+        match rt.arg(number, word.as_mut_slice()) {
+            Ok(len) if from_utf8(&word[..len]).is_ok() => number = number.saturating_add(1),
+            Err(FillError::TooLong) => word.resize(word.len().saturating_mul(2), 0)?,
+            _ => break,
+        }
+    }
+    Ok(number)
 }
 
 /// Whether someone waits at a terminal to which no lines are written.
