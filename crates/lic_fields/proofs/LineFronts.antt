@@ -7,7 +7,7 @@ use lib.Ieee.Fits.{and_l, and_r}
 use Rattle.itoa.proofs.Decimal.{decimal_pair}
 use Rattle.lic_fields.specs.declared.line_front.TheConstants.{PAIRS}
 use Rattle.lic_fields.specs.Fields.{field}
-use Rattle.lic_fields.specs.Fronts.{last_two, IsKept}
+use Rattle.lic_fields.specs.Fronts.{last_two, AreWritten}
 
 abbrev are_pairs : ℕ → Bool
 are_pairs zero = true
@@ -132,18 +132,19 @@ pub second-true : (a b : Bool) → (a && b) ≡ true → b ≡ true
 second-true true b both = both
 second-true false b both = absurd (true≢false (sym both))
 
--- where the first number ends in what is kept
-pub ends_within : (same : ℕ) (bytes : List ℕ) (first_end first second : ℕ) → IsKept same bytes first_end first second
-    → 100 ≤ first → first < 2 ^ 64 → (2 ≤ first_end) × (first_end + 2 ≤ length bytes)
-ends_within same bytes first_end first second kept large fits =
-    let a = decimal first in
-    let b = decimal second in
-    let digits : length a ≡ length (decimal (first / 100)) + 2 =
-    ap length (decimal_pair first large fits) ∙ length-append (decimal (first / 100)) (last_two first) in
-    let head : length (take same bytes) ≡ same = length-take-le same bytes kept.within in
-    let ends : first_end ≡ same + length a = kept.ends large in
+-- where the first number ends in what is written
+pub ends_within : (same : ℕ) (bytes : List ℕ) (first_end first second : ℕ) → same ≤ length bytes → 0 < first
+    → AreWritten same bytes first_end first second → (2 ≤ first_end) × (first_end + 2 ≤ length bytes)
+ends_within same bytes first_end first second within large written =
+    let a = decimal written.one in
+    let b = decimal written.two in
+    let is = written.one_is in
+    let digits : length a ≡ length (decimal (written.one / 100)) + 2 =
+    ap length (decimal_pair written.one (omega (arith, large, is)) written.one_fits) ∙ length-append (decimal (written.one / 100)) (last_two written.one) in
+    let head : length (take same bytes) ≡ same = length-take-le same bytes within in
+    let ends : first_end ≡ same + length a = written.end_is in
     let whole : length bytes ≡ length (take same bytes) + (length (field a 0x09) + length (field b 0x09)) =
-    ap length (kept.numbers large) ∙ (length-append (take same bytes) (field a 0x09 ++ field b 0x09)
+    ap length written.bytes_are ∙ (length-append (take same bytes) (field a 0x09 ++ field b 0x09)
     ∙ ap (λ m. length (take same bytes) + m) (length-append (field a 0x09) (field b 0x09))) in
     let one : length (field a 0x09) ≡ length a + 1 = length-append a (0x09 ∷ []) in
     let two : length (field b 0x09) ≡ length b + 1 = length-append b (0x09 ∷ []) in

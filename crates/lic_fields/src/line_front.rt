@@ -1,6 +1,6 @@
 //! What lines begin with: bytes that are the same in all, and two numbers.
 
-ghost use Rattle.std.specs.Prelude.{◌≡◌, ◌≤◌, ◌/◌, ◌-◌, ◌++◌, true, OnOk, decimal, drop, length, take};
+ghost use Rattle.std.specs.Prelude.{◌≡◌, ◌<◌, ◌≤◌, ◌/◌, ◌-◌, ◌++◌, true, OnOk, decimal, drop, length, take};
 ghost use Rattle.lic_fields.specs.Fields.{field};
 ghost use Rattle.lic_fields.specs.Fronts.{last_two};
 
@@ -12,12 +12,12 @@ use std::marker::Model;
 static PAIRS: [u8; 200] =
     *b"00010203040506070809101112131415161718192021222324252627282930313233343536373839404142434445464748495051525354555657585960616263646566676869707172737475767778798081828384858687888990919293949596979899";
 
-/// Whether a number has the digits of another but for the last two, and both of these.
+/// Whether a number has these hundreds, which are not 0: then it has the digits of any other that has them, but for the last two.
 #[inline(always)]
-fn is_near(n: u64, kept: u64) -> bool
-    ensures { result ≡ true → (100 ≤ kept) × (n / 100 ≡ kept / 100) }
+fn has_hundreds(n: u64, hundreds: u64) -> bool
+    ensures { result ≡ true → (0 < hundreds) × (n / 100 ≡ hundreds) }
 {
-    (kept >= 100) & (n / 100 == kept / 100)
+    (hundreds > 0) & (n / 100 == hundreds)
 }
 
 /// Writes the last two digits of a number so that they end at `end`.
@@ -42,7 +42,7 @@ pub struct LineFront {
     same: usize,
     // where the digits of the first number end
     first_end: usize,
-    // the numbers written last; below 100 the first may be none
+    // the hundreds of the numbers written last; where the first are 0, there may be no numbers
     first: u64,
     second: u64,
 }
@@ -80,7 +80,7 @@ impl LineFront {
         ensures line { OnOk result (line.new.items ≡ line.old.items
             ++ (self.old ++ (field (decimal first) 0x09 ++ field (decimal second) 0x09))) }
     {
-        if !(is_near(first, self.first) & is_near(second, self.second)) {
+        if !(has_hundreds(first, self.first) & has_hundreds(second, self.second)) {
             return self.add_anew(line, first, second);
         }
         let first_end = line.len() + self.first_end;
@@ -105,8 +105,8 @@ impl LineFront {
         self.bytes.truncate(self.same);
         self.bytes.extend_from_slice(&buffer[at..])?;
         self.first_end = self.same + (middle - 1 - at);
-        self.first = first;
-        self.second = second;
+        self.first = first / 100;
+        self.second = second / 100;
         line.extend_from_slice(&self.bytes)
     }
 }
