@@ -12,6 +12,7 @@ ghost use Rattle.lic_engine.specs.Inputs.{IsAccepted, IsRefused, IsUnrefused};
 use crate::fault::RunFault;
 use crate::input::read_text;
 use crate::outer::report_outer;
+use lic_fields::LineFront;
 use lic_find::Ask;
 use lic_kind::Rules;
 use lic_norm::{Text, TextFault, Words};
@@ -141,9 +142,10 @@ fn report_tokens<W: Sink>(
 {
     let mut file = Vec::new(alloc);
     add_file(&mut file, name)?;
+    let mut front = LineFront::new(file);
     let mut lines = Vec::new(alloc);
     for i in 0..text.len() {
-        add_token(&mut lines, &file, text, i)?;
+        add_token(&mut lines, &mut front, text, i)?;
         put_gathered(out, &mut lines)?;
     }
     put_all(out, lines.as_slice())?;

@@ -1,2 +1,3 @@
 mod Characters
+mod LineFronts
 mod PlainBytes

@@ -5,12 +5,15 @@ ghost use Rattle.std.specs.Prelude.{◌≡◌, ◌≤◌, ◌+◌, ◌++◌, [],
 ghost use Rattle.std.specs.Fmt.{WritesOnOk};
 ghost use Rattle.lic_fields.specs.Fields.{ArePlain, escaped_byte, escaped, field};
 
+mod line_front;
+
 use itoa::{Buffer, write_digits};
+pub use line_front::LineFront;
 use std::alloc::AllocError;
 use std::fmt;
 
 /// The most bytes of two numbers: 20 digits each, and a mark after it.
-const TWO_NUMBERS: usize = 42;
+pub(crate) const TWO_NUMBERS: usize = 42;
 
 /// The most bytes of four numbers.
 const FOUR_NUMBERS: usize = 84;
@@ -98,6 +101,7 @@ pub fn add_text(line: &mut Vec<u8>, bytes: &[u8], mark: u8) -> Result<(), AllocE
 
 /// Adds the first `len` of these bytes as a field, and the tab or the line end after it. Mostly they are few and unchanged: a copy of a
 /// fixed length, of which the end is let go of, takes less time than one of their length.
+#[inline(always)]
 pub fn add_front(line: &mut Vec<u8>, bytes: &[u8], len: usize, mark: u8) -> Result<(), AllocError>
     requires { len ≤ length bytes.now }
     ensures { OnOk result (line.new.items
@@ -125,9 +129,10 @@ pub fn add_number(line: &mut Vec<u8>, n: u64, mark: u8) -> Result<(), AllocError
 
 /// Writes a number and the mark after it so that they end at `end`, and answers where they start.
 #[inline(always)]
-fn write_number(buffer: &mut [u8], end: usize, n: u64, mark: u8) -> usize
+pub(crate) fn write_number(buffer: &mut [u8], end: usize, n: u64, mark: u8) -> usize
     requires { (21 ≤ end) × (end ≤ length buffer.old) }
     ensures start { (end ≤ result + 21) × (result ≤ end) }
+    ensures digits { result + length (decimal n) + 1 ≡ end }
     ensures written { drop result buffer.new ≡ field (decimal n) mark ++ drop end buffer.old }
     ensures len { length buffer.new ≡ length buffer.old }
 {

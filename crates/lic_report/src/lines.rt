@@ -8,7 +8,7 @@ ghost use Rattle.lic_vars.specs.Views.{value_of};
 ghost use Rattle.lic_report.specs.Checking.{check_line};
 ghost use Rattle.lic_report.specs.Report.{token_line, place_fields, value_line, no_known, no_token};
 
-use lic_fields::{add_front, add_number, add_text, add_two_numbers};
+use lic_fields::{LineFront, add_front, add_number, add_text, add_two_numbers};
 use lic_norm::{Span, Text};
 use lic_set::Set;
 use lic_vars::Value;
@@ -21,19 +21,25 @@ pub fn add_file(lines: &mut Vec<u8>, name: &str) -> Result<(), AllocError>
     add_text(lines, name.as_bytes(), b'\t')
 }
 
-/// Adds the line of the token number `i`: the file, as `add_file` has written its name, the first byte of the token and its end,
-/// and its text.
-pub fn add_token(lines: &mut Vec<u8>, file: &[u8], text: &Text, i: usize) -> Result<(), AllocError>
+/// Adds the line of the token number `i`: the file, whose name as `add_file` writes it is the same in all lines, the first byte of
+/// the token and its end, and its text.
+#[inline(always)]
+pub fn add_token(
+    lines: &mut Vec<u8>,
+    front: &mut LineFront,
+    text: &Text,
+    i: usize,
+) -> Result<(), AllocError>
     requires { i < length text.now.tokens }
-    ensures { OnOk result ((name : List ℕ) → file.now ≡ field (escaped name) 0x09
+    ensures same { OnOk result (front.new ≡ front.old) }
+    ensures line { OnOk result ((name : List ℕ) → front.old ≡ field (escaped name) 0x09
         → lines.new.items ≡ lines.old.items
         ++ token_line name (slice_index_or text.now.tokens i no_token)) }
 {
     let token = text.token(i);
     let start = text.place(i).start;
     let letters = &text.spelled().as_bytes()[start..];
-    lines.extend_from_slice(file)?;
-    add_two_numbers(lines, token.span.start as u64, token.span.end as u64)?;
+    front.add(lines, token.span.start as u64, token.span.end as u64)?;
     add_front(lines, letters, token.text.len(), b'\n')?;
     Ok(())
 }

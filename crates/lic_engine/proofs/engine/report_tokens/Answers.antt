@@ -16,12 +16,10 @@ returns-in_err-add_token-clause-part g c =
 
 pub returns-in_err-put_gathered-clause-part : goal.returns-in_err-put_gathered-clause-part
 returns-in_err-put_gathered-clause-part g c =
-    let file : c.deref.result.now ≡ field (escaped c.args.name.now) 0x09 =
-    c.deref.ensures.value ∙ c.in_ok-add_file.ensures ∙ ap (λ l. l ++ field (escaped c.args.name.now) 0x09) c.new-file.ensures.items in
     let within : c.loop-i.i < length c.args.text.now.tokens = search rules in
     let put : IsPut _ (g.W.Sink.taken c.loop-i.out) c.add_token.new.lines.items (token_lines c.args.name.now (take (c.loop-i.i + 1) c.args.text.now.tokens)) =
     put_token c.args.name.now c.args.text.now.tokens c.loop-i.i _ _ _ _
-    c.loop-i.invariant.put within (c.in_ok-add_token.ensures c.args.name.now file) in
+    c.loop-i.invariant.put within (c.in_ok-add_token.ensures.line c.args.name.now c.loop-i.invariant.front) in
     begins_tokens _ c.args.name.now c.args.text.now.tokens _ _
     (put_begins_within (token_line c.args.name.now) c.args.text.now.tokens
     (take (c.loop-i.i + 1) c.args.text.now.tokens) (drop (c.loop-i.i + 1) c.args.text.now.tokens)
@@ -29,13 +27,12 @@ returns-in_err-put_gathered-clause-part g c =
 
 pub loop-i-preserved : goal.loop-i-preserved
 loop-i-preserved g c =
-    let file : c.deref.result.now ≡ field (escaped c.args.name.now) 0x09 =
-    c.deref.ensures.value ∙ c.in_ok-add_file.ensures ∙ ap (λ l. l ++ field (escaped c.args.name.now) 0x09) c.new-file.ensures.items in
     let within : c.loop-i.i < length c.args.text.now.tokens = search rules in
     record {
+      front = c.in_ok-add_token.ensures.same ∙ c.loop-i.invariant.front;
       put = put_more _ (g.W.Sink.taken c.loop-i.out) _ _ _ _
           (put_token c.args.name.now c.args.text.now.tokens c.loop-i.i _ _ _ _
-          c.loop-i.invariant.put within (c.in_ok-add_token.ensures c.args.name.now file))
+          c.loop-i.invariant.put within (c.in_ok-add_token.ensures.line c.args.name.now c.loop-i.invariant.front))
           c.in_ok-put_gathered.ensures.ok;
       sound = search rules;
     }

@@ -27,11 +27,11 @@ add_front-requires c =
     (subst (λ t. length t ≤ length (letters c.args.text.now.tokens c.args.i no_token c.requires)) (sym (c.token-token.ensures.text no_token))
     (text-fits c.args.text.now.tokens c.args.i no_token c.requires))
 
-pub returns : goal.returns
-returns c name file =
+pub returns-clause-line : goal.returns-clause-line
+returns-clause-line c name file =
     let e : c.as_bytes.result.now ≡ spelled (texts_of c.args.text.now.tokens) = c.as_bytes.ensures.value ∙ c.spelled.ensures in
     let part = part_is _ _ _ _ e c.place-start.ensures.start in
     let n : length c.token-token.result.text.now ≡ length (get_or c.args.text.now.tokens c.args.i no_token).text = ap length (c.token-token.ensures.text no_token) in
-    line-is c.args.lines.now.items c.args.file.now _ _ _ name _ c.token-token.result.span (get_or c.args.text.now.tokens c.args.i no_token) _ file
-    c.in_ok-extend_from_slice.ensures.items c.in_ok-add_two_numbers.ensures c.in_ok-add_front.ensures (c.token-token.ensures.span no_token)
+    line-is c.args.lines.now.items c.args.front.now _ _ name _ c.token-token.result.span (get_or c.args.text.now.tokens c.args.i no_token) _ file
+    c.in_ok-add.ensures.line c.in_ok-add_front.ensures (c.token-token.ensures.span no_token)
     (ap₂ take n part ∙ text-taken c.args.text.now.tokens c.args.i no_token c.requires)
