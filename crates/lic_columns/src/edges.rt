@@ -1,14 +1,13 @@
 //! The line rules: what they take from lines of ASCII counts as blanks.
 ghost use Rattle.std.specs.Prelude.{◌≡◌, ◌+◌, ◌<◌, ◌≤◌, ◌^◌, length, OnOk, IsAscii};
 ghost use Rattle.lic_kind.specs.LineRules.{rules_of};
-ghost use Rattle.lic_trim.specs.Leads.{AreLeads};
 ghost use Rattle.lic_trim.specs.Lines.{cut_of, whole_line};
-ghost use Rattle.lic_columns.specs.Edges.{AreBlank, AreCleared, byte_lines, edges_blanked, lines_blanked};
+ghost use Rattle.lic_columns.specs.Edges.{AreBlank, byte_lines, edges_blanked, lines_blanked};
 ghost use Rattle.lic_columns.specs.Known.{known_of};
 
 use crate::columns::Columns;
 use lic_lines::Rules;
-use lic_trim::{Leads, LineCut, SourceChar, cut_by_leads, takes_spaces};
+use lic_trim::{LineCut, SourceChar, cut_of_ascii, takes_spaces};
 use std::alloc::{AllocError, Global};
 
 /// Takes lead, item and tail of a line away, which is from `at` to `end`.
@@ -32,13 +31,11 @@ pub fn clear_edges(cut: LineCut, at: usize, end: usize, columns: &mut Columns)
 fn clear_line(
     alloc: Global,
     rules: &Rules,
-    leads: &Leads,
     line: &[u8],
     at: usize,
     columns: &mut Columns,
     characters: &mut Vec<SourceChar>,
 ) -> Result<(), AllocError>
-    requires known { AreLeads leads.now (rules_of rules.now).lead }
     requires ascii { IsAscii line.now }
     requires fits { at + length line.now < 2 ^ 32 }
     requires word { at + length line.now ≤ length columns.old.word }
@@ -50,61 +47,8 @@ fn clear_line(
     if takes_spaces(rules, line) {
         return Ok(());
     }
-    let cut = cut_by_leads(alloc, rules, leads, line, characters)?;
+    let cut = cut_of_ascii(alloc, rules, line, characters)?;
     clear_edges(cut, at, at + line.len(), columns);
-    Ok(())
-}
-
-/// The first line of a text of ASCII of which more is taken than white space, or the end of the text. In prose there is mostly none.
-fn first_cut(rules: &Rules, text: &[u8], columns: &Columns) -> usize
-    requires ascii { IsAscii text.now }
-    requires read { columns.now ≡ known_of text.now }
-    ensures { AreCleared (rules_of rules.now) text.now result columns.now }
-{
-    let mut first = 0;
-    while first < text.len() {
-        let end = columns.line_end(first);
-        if !takes_spaces(rules, &text[first..end]) {
-            return first;
-        }
-        first = end;
-    }
-    first
-}
-
-/// Takes lead, item and tail of each line away that is at this place or after it. The characters are room for those of a line,
-/// whatever they hold.
-///
-/// # Errors
-/// Memory ran out. Which lines are then cleared is not said.
-fn clear_from(
-    alloc: Global,
-    rules: &Rules,
-    text: &[u8],
-    first: usize,
-    columns: &mut Columns,
-    characters: &mut Vec<SourceChar>,
-) -> Result<(), AllocError>
-    requires ascii { IsAscii text.now }
-    requires fits { length text.now < 2 ^ 32 }
-    requires cleared { AreCleared (rules_of rules.now) text.now first columns.old }
-    ensures { OnOk result (columns.new ≡ lines_blanked (rules_of rules.now) 0 (byte_lines text.now) (known_of text.now)) }
-{
-    let leads = Leads::of(rules);
-    let mut at = first;
-    while at < text.len() {
-        let end = columns.line_end(at);
-        clear_line(
-            alloc,
-            rules,
-            &leads,
-            &text[at..end],
-            at,
-            columns,
-            characters,
-        )?;
-        at = end;
-    }
     Ok(())
 }
 
@@ -125,9 +69,11 @@ pub fn clear_lines(
     requires read { columns.old ≡ known_of text.now }
     ensures { OnOk result (columns.new ≡ lines_blanked (rules_of rules.now) 0 (byte_lines text.now) (known_of text.now)) }
 {
-    let first = first_cut(rules, text, columns);
-    if first >= text.len() {
-        return Ok(());
+    let mut at = 0;
+    while at < text.len() {
+        let end = columns.line_end(at);
+        clear_line(alloc, rules, &text[at..end], at, columns, characters)?;
+        at = end;
     }
-    clear_from(alloc, rules, text, first, columns, characters)
+    Ok(())
 }

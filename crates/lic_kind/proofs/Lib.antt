@@ -9,6 +9,6 @@ pub mod LineWords
 pub mod RulesRead
 pub mod FirstFault
 mod examples
-pub mod OpenerLemmas
+pub mod BeginningLemmas
 pub mod PlainWords
 pub mod LetterTable

@@ -1,15 +1,14 @@
 //! The line rules.
-ghost use Rattle.std.specs.Prelude.{◌≡◌, reverse};
-ghost use Rattle.std.specs.List.{All};
-ghost use Rattle.lic_kind.specs.Openers.{IsKnown};
+ghost use Rattle.std.specs.Prelude.{◌≡◌};
+ghost use Rattle.lic_kind.specs.Beginnings.{AreEndsKnown, AreFrontsKnown};
 ghost use Rattle.lic_kind.specs.TextLists.{texts_of};
 
-mod openers;
+mod beginnings;
 mod reader;
 mod rule_line;
 
 use crate::rule_kind::RuleKind;
-use crate::rules::openers::Openers;
+use crate::rules::beginnings::Beginnings;
 use crate::rules::reader::Reader;
 use crate::rules_fault::RulesFault;
 use crate::texts::{FixedText, Texts};
@@ -60,13 +59,13 @@ pub struct Rules {
     pub(crate) tail_repeat: Texts,
     pub(crate) items: bool,
     pub(crate) separators: bool,
-    front: Openers,
-    end: Openers,
-    ghost lead_known: { All (IsKnown front) (texts_of lead) },
-    ghost lead_space_known: { All (IsKnown front) (texts_of lead_space) },
-    ghost tail_known: { All (λ text. IsKnown end (reverse text)) (texts_of tail) },
-    ghost tail_space_known: { All (λ text. IsKnown end (reverse text)) (texts_of tail_space) },
-    ghost tail_repeat_known: { All (λ text. IsKnown end (reverse text)) (texts_of tail_repeat) },
+    front: Beginnings,
+    end: Beginnings,
+    ghost lead_known: { AreFrontsKnown front 0 (texts_of lead) },
+    ghost lead_space_known: { AreFrontsKnown front 48 (texts_of lead_space) },
+    ghost tail_known: { AreEndsKnown end 0 (texts_of tail) },
+    ghost tail_space_known: { AreEndsKnown end 40 (texts_of tail_space) },
+    ghost tail_repeat_known: { AreEndsKnown end 52 (texts_of tail_repeat) },
 }
 
 /// The texts of each kind.
@@ -79,11 +78,10 @@ struct AllTexts {
 }
 
 impl Rules {
-    ghost use Rattle.std.specs.Prelude.{◌<◌, ◌⊎◌, [], false, true, IfErr, IfOk, OnOk, length, slice_index_or};
-    ghost use Rattle.std.specs.List.{list_any};
+    ghost use Rattle.std.specs.Prelude.{◌<◌, ◌⊎◌, [], true, IfErr, IfOk, IfSome, OnOk, length, slice_index_or};
     ghost use Rattle.std.specs.Str.{chars};
     ghost use Rattle.lic_kind.specs.LineRules.{rules_of, rules_with, texts_of_kind, profile};
-    ghost use Rattle.lic_kind.specs.Openers.{opens_in};
+    ghost use Rattle.lic_kind.specs.Beginnings.{HasEnds, HasFronts, HasSomeEnd, HasSomeFront};
     ghost use Rattle.lic_kind.specs.RuleFiles.{AreSound, IsFirstFault, lines_of, out_of_memory, rules_in};
 
     /// The rules of these texts, with quick looks at where they begin and end.
@@ -97,13 +95,13 @@ impl Rules {
             tail_space,
             tail_repeat,
         } = texts;
-        let mut front = Openers::none();
-        front.add_fronts(&lead);
-        front.add_fronts(&lead_space);
-        let mut end = Openers::none();
-        end.add_ends(&tail);
-        end.add_ends(&tail_space);
-        end.add_ends(&tail_repeat);
+        let mut front = Beginnings::none();
+        front.add_fronts(0, &lead);
+        front.add_fronts(48, &lead_space);
+        let mut end = Beginnings::none();
+        end.add_ends(0, &tail);
+        end.add_ends(40, &tail_space);
+        end.add_ends(52, &tail_repeat);
         Rules {
             lead,
             lead_space,
@@ -209,28 +207,24 @@ impl Rules {
         self.separators
     }
 
-    /// A prefilter for the front of a line, by its first character after white space: false only if no text of a lead
-    /// begins in white space or in this character.
+    /// Which texts of a lead may be where a line has these two characters: text i has bit i, and one with white space has another bit.
+    /// Nothing is said where more may be than a mask has bits for.
     #[inline(always)]
-    pub fn may_open_lead(&self, c: char) -> bool
-        ensures lead { result ≡ false → list_any (opens_in c) (rules_of self.now).lead ≡ false }
-        ensures lead_space { result ≡ false
-            → list_any (opens_in c) (rules_of self.now).lead_space ≡ false }
+    pub fn begun_leads(&self, first: char, second: char) -> Option<u64>
+        ensures lead { IfSome result (λ mask. HasFronts mask first second (rules_of self.now).lead) }
+        ensures lead_space { IfSome result (λ mask. HasSomeFront mask first second (rules_of self.now).lead_space) }
     {
-        self.front.may_open(c)
+        self.front.begun(first, second)
     }
 
-    /// A prefilter for the end of a line, by its last character before white space: false only if no text of a tail ends
-    /// in white space or in this character.
+    /// Which texts of a tail may be where a line, from its end on, has these two characters: text i has bit i, and one of another kind
+    /// has another bit. Nothing is said where more may be than a mask has bits for.
     #[inline(always)]
-    pub fn may_open_tail(&self, c: char) -> bool
-        ensures tail { result ≡ false
-            → list_any (λ text. opens_in c (reverse text)) (rules_of self.now).tail ≡ false }
-        ensures tail_space { result ≡ false
-            → list_any (λ text. opens_in c (reverse text)) (rules_of self.now).tail_space ≡ false }
-        ensures tail_repeat { result ≡ false
-            → list_any (λ text. opens_in c (reverse text)) (rules_of self.now).tail_repeat ≡ false }
+    pub fn begun_tails(&self, first: char, second: char) -> Option<u64>
+        ensures tail { IfSome result (λ mask. HasEnds mask first second (rules_of self.now).tail) }
+        ensures tail_space { IfSome result (λ mask. HasSomeEnd mask first second (rules_of self.now).tail_space) }
+        ensures tail_repeat { IfSome result (λ mask. HasSomeEnd mask first second (rules_of self.now).tail_repeat) }
     {
-        self.end.may_open(c)
+        self.end.begun(first, second)
     }
 }

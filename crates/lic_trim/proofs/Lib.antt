@@ -23,4 +23,4 @@ pub mod ItemFronts
 pub mod WordLetters
 pub mod SpaceCuts
 pub mod LowestBit
-pub mod LeadTexts
+pub mod BegunTexts

@@ -1,21 +1,23 @@
 -- How long the pieces are that a way begins with.
-use Rattle.std.proofs.Common.{◌≡◌, ◌≢◌, ℕ, zero, suc, ◌*◌, ◌/◌, ◌%◌, ◌^◌, ◌<◌, ◌≤◌, max, w64, Bool, true, false, ◌&&◌, ◌||◌, ◌==◌, ◌⊎◌, inl, inr, List, [], ◌∷◌, ◌++◌, length, take, drop, get_or, reverse, refl, sym, ap, ap₂, ◌∙◌, append_assoc, length-append, ⊎_elim, arith}
+use Rattle.std.proofs.Common.{◌≡◌, ◌≢◌, ℕ, zero, suc, ◌*◌, ◌/◌, ◌%◌, ◌^◌, ◌<◌, ◌≤◌, w64, Bool, true, false, ◌&&◌, ◌||◌, ◌==◌, ◌⊎◌, inl, inr, List, [], ◌∷◌, ◌++◌, length, take, drop, get_or, reverse, refl, sym, ap, ap₂, ◌∙◌, append_assoc, length-append, ⊎_elim, arith}
 use Rattle.std.specs.Prelude.{bytes_eq, bit_or, nat_lt}
 use Rattle.std.specs.List.{list_any}
 use Rattle.std.specs.Char.{is_whitespace}
-use Rattle.std.specs.Int.{bit_at}
 use Rattle.std.proofs.Math.Seq.{take-suc, get_or-append_seam}
 use Rattle.std.proofs.lemmas.Bool.{false≢true, and_parts, and_from, or_cases, or_left, or_right, cases_Bool, cases_lt, eqb-true, eq-eqb, lt-ltb, le-ltb, le-leb, lt-leb}
 use Rattle.std.proofs.lemmas.List.{length-reverse, length-take-le, reverse-append, reverse-reverse, take-append-drop, get_or_past}
-use Rattle.std.proofs.lemmas.Nat.Bits.{bit_at-lt, bit_at_or, bit_at-zero, bit_at_above, bit_at_lowest, bit_at-suc, bit_at_set_same, bit_at_set_other}
+use Rattle.std.proofs.lemmas.Nat.Bits.{bit_at-zero, bit_at_above, bit_at_lowest, bit_at-suc, bit_at_set_same, bit_at_set_other}
 use Rattle.std.proofs.lemmas.Slice.Eq.{bytes_eq-Decides}
+pub use Rattle.lic_kind.proofs.BeginningLemmas.{has_bit_or}
 use Rattle.lic_kind.specs.LineRules.{LineRules}
+use Rattle.lic_trim.specs.Beginnings.{HasBits, HasBegun}
 use Rattle.lic_trim.specs.Lines.{is_space, is_separator, repeats}
 use Rattle.lic_trim.specs.PieceLengths.{has_bit, begins_with_length, begins_with_separator, begins_with_spaced, goes_on, AreLengths}
 use Rattle.lic_trim.specs.Texts.{ends_in}
-use Rattle.lic_trim.specs.Walks.{Side, Front, End, walked, is_walked_piece, side_texts, side_spaced, side_repeated, begins_with_text, opens_in, may_open}
+use Rattle.lic_trim.specs.Walks.{Side, Front, End, walked, is_walked_piece, side_texts, side_spaced, side_repeated, begins_with_text}
 use Rattle.lic_trim.proofs.PieceEnds.{ends_in-snoc}
 use Rattle.lic_trim.proofs.SideEnds.{walked_piece}
+use Rattle.lic_trim.proofs.Stops.{any_some}
 use Rattle.lic_trim.proofs.TextLemmas.{same_truth}
 
 -- ---- tests of lists
@@ -247,101 +249,45 @@ all_lengths rules side way mask long off is = record {
         (ap₂ (λ a b. a || b) (no_any _ (side_spaced rules side) (λ t. no_spaced_beyond n way (walked side t) far))
         (no_any _ (side_repeated rules side) (λ t. no_text_beyond n way (reverse t) far)))
 
--- ---- where no text opens
+pub has_bit_zero : (k : ℕ) → has_bit 0 k ≡ false
+has_bit_zero k = ap (λ n. n == 1) (bit_at-zero k)
 
-not_opened : (n : ℕ) (way t : List ℕ) → 0 < n → 0 < length way → opens_in (get_or way 0 0) t ≡ false → begins_with_length n way t ≡ false
-not_opened zero way t some long none = absurd (omega arith)
-not_opened (suc n) way [] some long none = apart 0 (suc n) (λ e. omega arith)
-not_opened (suc n) [] (c ∷ t) some long none = absurd (omega arith)
-not_opened (suc n) (d ∷ way) (c ∷ t) some long none =
-    let other : (c == d) ≡ false = (or_none (is_whitespace c) (c == d) none).1 in
-    let differs : (d == c) ≡ false = same_truth (d == c) false (λ h. sym other ∙ eq-eqb c d (sym (eqb-true d c h))) (λ h. absurd (false≢true h)) in
-    ap (λ b. (b && begins_with_text way t) && (suc (length t) == suc n)) differs
+-- ---- where no text begins
 
-not_opened_spaced : (n : ℕ) (way t : List ℕ) → 0 < length way → opens_in (get_or way 0 0) t ≡ false
-    → begins_with_spaced n way t ≡ true → (is_whitespace (get_or way 0 0) && (n == 1)) ≡ true
-not_opened_spaced n way [] long none h =
-    let more = and_parts (is_whitespace (get_or way 0 0)) (1 == n) h in
-    and_from (is_whitespace (get_or way 0 0)) (n == 1) more.0 (eq-eqb n 1 (sym (eqb-true 1 n more.1)))
-not_opened_spaced n [] (c ∷ t) long none h = absurd (omega arith)
-not_opened_spaced n (d ∷ way) (c ∷ t) long none h =
-    let stands = and_parts (d == c) (begins_with_text way t) (and_parts (begins_with_text (d ∷ way) (c ∷ t)) _ h).0 in
-    let other : (c == d) ≡ false = (or_none (is_whitespace c) (c == d) none).1 in
-    absurd (false≢true (sym other ∙ eq-eqb c d (sym (eqb-true d c stands.0))))
+none_of : (test : List ℕ → Bool) (side : Side) (way : List ℕ) (ts : List (List ℕ)) → ((t : List ℕ) → test t ≡ true → begins_with_text way (walked side t) ≡ true)
+    → HasBits 0 side way ts → list_any test ts ≡ false
+none_of test side way ts begins bits = elim (cases_Bool (list_any test ts)) [
+  | inl some ↦
+      let found = any_some test ts [] some in
+      absurd (false≢true (sym (has_bit_zero found.0) ∙ bits.each found.0 found.1 (begins (get_or ts found.0 []) found.2)))
+  | inr none ↦ none
+]
 
-any_not_opened : (n : ℕ) (way : List ℕ) (f : List ℕ → List ℕ) (ts : List (List ℕ)) → 0 < n → 0 < length way
-    → list_any (λ t. opens_in (get_or way 0 0) (f t)) ts ≡ false
-    → list_any (λ t. begins_with_length n way (f t)) ts ≡ false
-any_not_opened n way f [] some long none = refl
-any_not_opened n way f (t ∷ ts) some long none =
-    let parts = or_none (opens_in (get_or way 0 0) (f t)) (list_any (λ u. opens_in (get_or way 0 0) (f u)) ts) none in
-    ap₂ (λ a b. a || b) (not_opened n way (f t) some long parts.0) (any_not_opened n way f ts some long parts.1)
+none_repeated : (rules : LineRules) (test : List ℕ → Bool) (side : Side) (way : List ℕ) → ((t : List ℕ) → test t ≡ true → begins_with_text way (reverse t) ≡ true)
+    → HasBits 0 side way (side_repeated rules side) → list_any test (side_repeated rules side) ≡ false
+none_repeated rules test Front way begins bits = refl
+none_repeated rules test End way begins bits = none_of test End way rules.tail_repeat begins bits
 
-any_not_opened_spaced : (n : ℕ) (way : List ℕ) (f : List ℕ → List ℕ) (ts : List (List ℕ)) → 0 < length way
-    → list_any (λ t. opens_in (get_or way 0 0) (f t)) ts ≡ false
-    → list_any (λ t. begins_with_spaced n way (f t)) ts ≡ true → (is_whitespace (get_or way 0 0) && (n == 1)) ≡ true
-any_not_opened_spaced n way f [] long none h = absurd (false≢true h)
-any_not_opened_spaced n way f (t ∷ ts) long none h =
-    let parts = or_none (opens_in (get_or way 0 0) (f t)) (list_any (λ u. opens_in (get_or way 0 0) (f u)) ts) none in
-    ⊎_elim
-    (not_opened_spaced n way (f t) long parts.0)
-    (any_not_opened_spaced n way f ts long parts.1)
-    (or_cases (begins_with_spaced n way (f t)) (list_any (λ u. begins_with_spaced n way (f u)) ts) h)
+goes_begins : (way t : List ℕ) → goes_on way t ≡ true → begins_with_text way (reverse t) ≡ true
+goes_begins way [] h = absurd (false≢true h)
+goes_begins way (c ∷ t) h =
+    (and_parts (begins_with_text way (reverse (c ∷ t))) (nat_lt (suc (length t)) (length way) && (get_or way (suc (length t)) 0 == c)) h).0
 
-goes_off : (way t : List ℕ) → 0 < length way → opens_in (get_or way 0 0) (reverse t) ≡ false → goes_on way t ≡ false
-goes_off way [] long none = refl
-goes_off way (c ∷ rest) long none =
-    let t = c ∷ rest in
-    let n = length (reverse t) in
-    let off : begins_with_length n way (reverse t) ≡ false = not_opened n way (reverse t) (omega (arith, length-reverse t)) long none in
-    ⊎_elim
-    (λ h. let parts = and_parts (begins_with_text way (reverse t)) (nat_lt (suc (length rest)) (length way) && (get_or way (suc (length rest)) 0 == c)) h in
-    absurd (false≢true (sym off ∙ and_from (begins_with_text way (reverse t)) (n == n) parts.0 (eq-eqb n n refl))))
-    (λ no. no)
-    (cases_Bool (goes_on way t))
-
-any_goes_off : (way : List ℕ) (ts : List (List ℕ)) → 0 < length way → list_any (λ t. opens_in (get_or way 0 0) (reverse t)) ts ≡ false
-    → list_any (goes_on way) ts ≡ false
-any_goes_off way [] long none = refl
-any_goes_off way (t ∷ ts) long none =
-    let parts = or_none (opens_in (get_or way 0 0) (reverse t)) (list_any (λ u. opens_in (get_or way 0 0) (reverse u)) ts) none in
-    ap₂ (λ a b. a || b) (goes_off way t long parts.0) (any_goes_off way ts long parts.1)
-
-absorbed : (a b c d : Bool) → b ≡ false → (c ≡ true → a ≡ true) → d ≡ false → ((a || b) || (c || d)) ≡ a
-absorbed true b c d e f g = refl
-absorbed false false false false e f g = refl
-absorbed false false true false e f g = sym (f refl)
-absorbed false true c d e f g = absurd (false≢true (sym e))
-absorbed false false c true e f g = absurd (false≢true (sym g))
-
-pub space_lengths : (rules : LineRules) (side : Side) (way : List ℕ) (mask : ℕ) → 0 < length way → may_open rules side (get_or way 0 0) ≡ false
+pub space_lengths : (rules : LineRules) (side : Side) (way : List ℕ) (mask : ℕ) → 0 < length way → HasBegun rules side way 0
     → ((n : ℕ) → has_bit mask n ≡ blank rules way n) → AreLengths rules side way mask
-space_lengths rules side way mask long closed is =
-    let c = get_or way 0 0 in
-    let texts = list_any (λ t. opens_in c (walked side t)) (side_texts rules side) in
-    let spaced = list_any (λ t. opens_in c (walked side t)) (side_spaced rules side) in
-    let repeated = list_any (λ t. opens_in c (walked side t)) (side_repeated rules side) in
-    let first = or_none texts (spaced || repeated) closed in
-    let second = or_none spaced repeated first.1 in
-    record {
-      each = λ n some. is n ∙ ⊎_elim
-          (λ far. no_blank_beyond rules n way long far ∙ sym (ap (λ b. b && is_walked_piece rules side (take n way)) (lt-leb n (length way) far)))
-          (λ near. sym (piece_is rules side way n some near (none_goes_on side second.1)
-          ∙ absorbed (blank rules way n) _ _ _ (any_not_opened n way (walked side) (side_texts rules side) some long first.0)
-          (λ h. or_left (is_whitespace c && (n == 1)) _ (any_not_opened_spaced n way (walked side) (side_spaced rules side) long second.0 h)) (none_repeated n some side second.1))
-          ∙ sym (ap (λ b. b && is_walked_piece rules side (take n way)) (le-leb n (length way) near)))
-          (cases_lt (length way) n);
-    }
-  where
-    none_goes_on : (s : Side) → list_any (λ t. opens_in (get_or way 0 0) (walked s t)) (side_repeated rules s) ≡ false
-        → list_any (goes_on way) (side_repeated rules s) ≡ false
-    none_goes_on Front none = refl
-    none_goes_on End none = any_goes_off way rules.tail_repeat long none
-
-    none_repeated : (n : ℕ) → 0 < n → (s : Side) → list_any (λ t. opens_in (get_or way 0 0) (walked s t)) (side_repeated rules s) ≡ false
-        → list_any (λ t. begins_with_length n way (reverse t)) (side_repeated rules s) ≡ false
-    none_repeated n some Front none = refl
-    none_repeated n some End none = any_not_opened n way reverse rules.tail_repeat some long none
+space_lengths rules side way mask long none is =
+    all_lengths rules side way mask long (none_repeated rules (goes_on way) side way (goes_begins way) (none.repeated refl))
+    (λ n. is n ∙ sym (ap₂ (λ a b. a || b)
+    (ap (λ b. blank rules way n || b)
+    (none_of (λ t. begins_with_length n way (walked side t)) side way (side_texts rules side)
+    (λ t h. (and_parts (begins_with_text way (walked side t)) (length (walked side t) == n) h).0) none.texts)
+    ∙ or-false (blank rules way n))
+    (ap₂ (λ a b. a || b)
+    (none_of (λ t. begins_with_spaced n way (walked side t)) side way (side_spaced rules side)
+    (λ t h. (and_parts (begins_with_text way (walked side t)) (is_whitespace (get_or way (length (walked side t)) 0) && (suc (length (walked side t)) == n)) h).0) (none.spaced refl))
+    (none_repeated rules (λ t. begins_with_length n way (reverse t)) side way
+    (λ t h. (and_parts (begins_with_text way (reverse t)) (length (reverse t) == n) h).0) (none.repeated refl)))
+    ∙ or-false (blank rules way n)))
 
 -- ---- a repeated text that does not continue
 
@@ -367,20 +313,6 @@ goes_on_other way (c ∷ t) d other =
     ∙ and-false (begins_with_text way (reverse (c ∷ t)))
 
 -- ---- bits
-
-either : (m n : ℕ) → m < 2 → n < 2 → (max m n == 1) ≡ ((m == 1) || (n == 1))
-either zero zero p q = refl
-either zero (suc zero) p q = refl
-either (suc zero) zero p q = refl
-either (suc zero) (suc zero) p q = refl
-either (suc (suc m)) n p q = absurd (omega arith)
-either m (suc (suc n)) p q = absurd (omega arith)
-
-pub has_bit_or : (a b k : ℕ) → has_bit (bit_or a b) k ≡ (has_bit a k || has_bit b k)
-has_bit_or a b k = ap (λ n. n == 1) (bit_at_or a b k) ∙ either (bit_at a k) (bit_at b k) (bit_at-lt a k) (bit_at-lt b k)
-
-pub has_bit_zero : (k : ℕ) → has_bit 0 k ≡ false
-has_bit_zero k = ap (λ n. n == 1) (bit_at-zero k)
 
 -- the lowest bit, and the bits above it
 pub has_bit_first : (mask : ℕ) → has_bit mask 0 ≡ (mask % 2 == 1)

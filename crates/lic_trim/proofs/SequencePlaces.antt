@@ -7,9 +7,10 @@ use Rattle.std.proofs.lemmas.List.{length-drop, get_or-drop}
 use Rattle.lic_kind.specs.Kinds.{kind_of, is_mark_kind}
 use Rattle.lic_kind.specs.LineRules.{LineRules}
 use Rattle.lic_kind.proofs.KindLemmas.{kind_of-white}
+use Rattle.lic_trim.specs.Beginnings.{HasBegun}
 use Rattle.lic_trim.specs.PieceLengths.{has_bit, AreLengths}
 use Rattle.lic_trim.specs.Texts.{is_sequence, greatest, longest_front}
-use Rattle.lic_trim.specs.Walks.{Side, is_walked_piece, may_open}
+use Rattle.lic_trim.specs.Walks.{Side, is_walked_piece}
 use Rattle.lic_trim.proofs.PieceLengths.{has_bit_zero, or-false, space_bit, space_lengths, next_with}
 use Rattle.lic_trim.proofs.SeparatorLengths.{bits_of_word}
 use Rattle.lic_trim.proofs.SequenceLemmas.{sequence_ends, sequence_goes_on}
@@ -175,7 +176,7 @@ longest_within p way n is = omega (arith, is, greatest_le (λ m. is_sequence p (
 
 -- where white space is, and no text begins with it, the one end goes on
 pub blank_ends : (rules : LineRules) (side : Side) (way : List ℕ) (at longest : ℕ) → AreEnds (is_walked_piece rules side) way at 1 longest → at < length way
-    → is_whitespace (slice_index way at) ≡ true → may_open rules side (slice_index way at) ≡ false
+    → is_whitespace (slice_index way at) ≡ true → HasBegun rules side (drop at way) 0
     → AreEnds (is_walked_piece rules side) way (at + 1) 1 at
 blank_ends rules side way at longest are inside white closed =
     let p = is_walked_piece rules side in
@@ -186,7 +187,7 @@ blank_ends rules side way at longest are inside white closed =
     let light : is_whitespace (get_or rest 0 0) ≡ true = ap is_whitespace first ∙ white in
     let no_mark : is_mark_kind (kind_of (get_or rest 0 0)) ≡ false = ap is_mark_kind (kind_of-white (get_or rest 0 0) light) in
     let lengths : AreLengths rules side rest 2 =
-    space_lengths rules side rest 2 (omega (arith, long)) (ap (may_open rules side) first ∙ closed)
+    space_lengths rules side rest 2 (omega (arith, long)) closed
     (λ n. space_bit n ∙ ap (λ b. b && (n == 1)) (sym light)
     ∙ sym (or-false (is_whitespace (get_or rest 0 0) && (n == 1)))
     ∙ ap (λ b. (is_whitespace (get_or rest 0 0) && (n == 1)) || b) (sym (has_bit_zero n) ∙ bits_of_word rest rules.separators no_mark n)) in

@@ -4,14 +4,14 @@ use Rattle.std.specs.Prelude.{slice_range, slice_index, slice_index_or, bytes_eq
 use Rattle.std.specs.List.{list_any}
 use Rattle.std.specs.Char.{is_whitespace}
 use Rattle.std.proofs.lemmas.Bool.{false≢true, and_parts, and_from, or_cases, or_left, or_right, cases_Bool, cases_lt, eqb-true, eq-eqb}
-use Rattle.std.proofs.lemmas.List.{length-reverse, reverse-append, reverse-reverse, take-append-drop, get_or-drop}
+use Rattle.std.proofs.lemmas.List.{length-reverse, reverse-append, reverse-reverse, take-append-drop}
 use Rattle.std.proofs.lemmas.Slice.Eq.{bytes_eq-Decides}
 use Rattle.lic_kind.specs.Kinds.{kind_of, is_mark_kind}
 use Rattle.lic_kind.proofs.KindLemmas.{kind_of-white}
 use Rattle.lic_trim.specs.Texts.{is_sequence, ends_in, greatest, longest_front}
 use Rattle.lic_kind.specs.LineRules.{LineRules}
 use Rattle.lic_trim.specs.Lines.{is_space, is_separator, repeats}
-use Rattle.lic_trim.specs.Walks.{Side, Front, End, walked, is_walked_piece, side_texts, side_spaced, side_repeated, opens_in, may_open, begins_with_text, may_begin_with, may_begin_with_any}
+use Rattle.lic_trim.specs.Walks.{Side, Front, End, walked, is_walked_piece, side_texts, side_spaced, side_repeated, begins_with_text, may_begin_with, may_begin_with_any}
 use Rattle.lic_trim.proofs.PieceEnds.{length_part, slice_at, separator_parts}
 use Rattle.lic_trim.proofs.KindEnds.{space_parts, slice_one}
 use Rattle.lic_trim.proofs.SideEnds.{walked_piece}
@@ -42,14 +42,6 @@ may_stand_there way [] more some how = absurd (omega arith)
 may_stand_there way (c ∷ t) more some (inl white) = or_left (is_whitespace c) (begins_with_text way (c ∷ t)) white
 may_stand_there way (c ∷ t) more some (inr is) =
     or_right (is_whitespace c) (begins_with_text way (c ∷ t)) (ap (λ l. begins_with_text l (c ∷ t)) is ∙ stands_front (c ∷ t) more)
-
--- a text that may occur begins in white space or as the way does
-stands_first : (way t : List ℕ) → opens_in (get_or way 0 0) t ≡ false → may_begin_with way t ≡ false
-stands_first way [] none = refl
-stands_first [] (c ∷ t) none = or_off (is_whitespace c) false (or_none (is_whitespace c) (c == 0) none).0 refl
-stands_first (d ∷ way) (c ∷ t) none =
-    let parts = or_none (is_whitespace c) (c == d) none in
-    or_off (is_whitespace c) ((d == c) && begins_with_text way t) parts.0 (ap (λ b. b && begins_with_text way t) (eqb-sym d c ∙ parts.1))
 
 -- what is a text with its first character once or more ends in the text
 repeats_end : (t x : List ℕ) → repeats t x ≡ true → (0 < length t) × ((front : List ℕ) × (x ≡ front ++ t))
@@ -256,59 +248,6 @@ module _ (rules : LineRules) (side : Side) (line : List ℕ) (n : ℕ) (inside :
       let test = λ (m : ℕ). is_sequence p (take m line) in
       sym (greatest_stays test n (length line) (omega arith) (λ m more le. beyond m m (omega arith) more le)
       ∙ greatest_itself test n (is_space_sequence n (omega arith)))
-
--- the same where no text begins in that character
-closed_first : (side : Side) (way : List ℕ) (ts : List (List ℕ))
-    → list_any (λ t. opens_in (get_or way 0 0) (walked side t)) ts ≡ false
-    → list_any (λ t. may_begin_with way (walked side t)) ts ≡ false
-closed_first side way [] none = refl
-closed_first side way (t ∷ ts) none =
-    let parts = or_none (opens_in (get_or way 0 0) (walked side t)) _ none in
-    or_off (may_begin_with way (walked side t)) _ (stands_first way (walked side t) parts.0) (closed_first side way ts parts.1)
-
-pub closed_there : (rules : LineRules) (side : Side) (way : List ℕ) → may_open rules side (get_or way 0 0) ≡ false → may_begin_with_any rules side way ≡ false
-closed_there rules side way closed =
-    let parts = or_none _ _ closed in
-    let more = or_none _ _ parts.1 in
-    or_off _ _ (closed_first side way (side_texts rules side) parts.0)
-    (or_off _ _ (closed_first side way (side_spaced rules side) more.0)
-    (closed_first side way (side_repeated rules side) more.1))
-
--- the same where the way begins with no text, and none begins in white space
-begins_none : (way : List ℕ) (side : Side) (ts : List (List ℕ)) → list_any (λ t. opens_in 32 (walked side t)) ts ≡ false
-    → list_any (λ t. begins_with_text way (walked side t)) ts ≡ false
-    → list_any (λ t. may_begin_with way (walked side t)) ts ≡ false
-begins_none way side [] white none = refl
-begins_none way side (t ∷ ts) white none =
-    let whites = or_none (opens_in 32 (walked side t)) _ white in
-    let nones = or_none (begins_with_text way (walked side t)) _ none in
-    or_off (may_begin_with way (walked side t)) _ (one (walked side t) whites.0 nones.0) (begins_none way side ts whites.1 nones.1)
-  where
-    one : (t : List ℕ) → opens_in 32 t ≡ false → begins_with_text way t ≡ false → may_begin_with way t ≡ false
-    one [] white none = refl
-    one (c ∷ t) white none = or_off (is_whitespace c) (begins_with_text way (c ∷ t)) (or_none (is_whitespace c) (c == 32) white).0 none
-
-pub no_text_there : (rules : LineRules) (side : Side) (way : List ℕ) → may_open rules side 32 ≡ false
-    → list_any (λ t. begins_with_text way (walked side t)) (side_texts rules side) ≡ false
-    → list_any (λ t. begins_with_text way (walked side t)) (side_spaced rules side) ≡ false
-    → list_any (λ t. begins_with_text way (walked side t)) (side_repeated rules side) ≡ false
-    → may_begin_with_any rules side way ≡ false
-no_text_there rules side way white texts spaced repeated =
-    let parts = or_none _ _ white in
-    let more = or_none _ _ parts.1 in
-    or_off _ _ (begins_none way side (side_texts rules side) parts.0 texts)
-    (or_off _ _ (begins_none way side (side_spaced rules side) more.0 spaced)
-    (begins_none way side (side_repeated rules side) more.1 repeated))
-
-pub longest_spaces : (rules : LineRules) (side : Side) (line : List ℕ) (n : ℕ) → n < length line
-    → ((i : ℕ) → i < n → is_whitespace (slice_index line i) ≡ true) → is_whitespace (slice_index line n) ≡ false
-    → may_open rules side (slice_index line n) ≡ false
-    → (n + 2 < length line → slice_index line (n + 1) ≡ slice_index line n → slice_index line (n + 2) ≢ slice_index line n)
-    → n ≡ longest_front (is_sequence (is_walked_piece rules side)) line
-longest_spaces rules side line n inside white dark closed apart =
-    let way = drop n line in
-    let first : slice_index line n ≡ get_or way 0 0 = let place : n + 0 ≡ n = omega arith in sym (get_or-drop n line 0 0 ∙ ap (λ i. get_or line i 0) place) in
-    longest_standing rules side line n inside white dark (closed_there rules side way (sym (ap (may_open rules side) first) ∙ closed)) apart
 
 -- a line of white space alone is a sequence
 module _ (rules : LineRules) (side : Side) (line : List ℕ) (white : (i : ℕ) → i < length line → is_whitespace (slice_index line i) ≡ true) where

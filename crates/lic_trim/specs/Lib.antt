@@ -4,5 +4,5 @@ pub mod Lines
 pub mod Walks
 pub mod PieceLengths
 pub mod Spaces
-pub mod Leads
+pub mod Beginnings
 pub mod Leaps

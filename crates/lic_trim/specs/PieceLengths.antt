@@ -1,14 +1,10 @@
 -- How long the pieces are that a way begins with, as bits of a mask.
 use Rattle.std.specs.Prelude.{ℕ, suc, Bool, false, ◌≡◌, ◌<◌, ◌&&◌, ◌==◌, nat_lt, nat_le, List, [], ◌∷◌, length, take, reverse, slice_index}
 use Rattle.std.specs.Char.{is_whitespace}
-use Rattle.std.specs.Int.{bit_at}
+pub use Rattle.lic_kind.specs.Beginnings.{has_bit}
 use Rattle.lic_kind.specs.LineRules.{LineRules}
 use Rattle.lic_trim.specs.Lines.{is_separator}
 use Rattle.lic_trim.specs.Walks.{Side, is_walked_piece, begins_with_text}
-
--- whether bit n of a mask is set
-abbrev pub has_bit : ℕ → ℕ → Bool
-has_bit mask n = bit_at mask n == 1
 
 -- whether this way begins with the text, which has n characters
 abbrev pub begins_with_length : ℕ → List ℕ → List ℕ → Bool

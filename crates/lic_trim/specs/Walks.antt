@@ -5,7 +5,6 @@ use Rattle.std.specs.Char.{is_whitespace}
 use Rattle.lic_trim.specs.Texts.{is_sequence, ends_in}
 use Rattle.lic_kind.specs.LineRules.{LineRules}
 use Rattle.lic_trim.specs.Lines.{is_lead_piece, is_tail_piece, repeats}
-pub use Rattle.lic_kind.specs.Openers.{opens_in}
 pub use Rattle.lic_trim.specs.declared.side.Side.{Side}
 pub use Rattle.lic_trim.specs.declared.side.Side.TheVariants.{Front, End}
 
@@ -33,12 +32,6 @@ side_spaced rules End = rules.tail_space
 abbrev pub side_repeated : LineRules → Side → List (List ℕ)
 side_repeated rules Front = []
 side_repeated rules End = rules.tail_repeat
-
--- whether one of the texts of this side does, on the way
-abbrev pub may_open : LineRules → Side → ℕ → Bool
-may_open rules side c = list_any (λ t. opens_in c (walked side t)) (side_texts rules side)
-    || (list_any (λ t. opens_in c (walked side t)) (side_spaced rules side)
-    || list_any (λ t. opens_in c (walked side t)) (side_repeated rules side))
 
 -- the texts of this side have at most this many characters
 pub record AreShort (rules : LineRules) (side : Side) (reach : ℕ) : Type 0 where

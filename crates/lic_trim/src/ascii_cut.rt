@@ -3,22 +3,20 @@ ghost use Rattle.std.specs.Prelude.{◌≡◌, ◌≢◌, ◌==◌, ◌||◌, �
 ghost use Rattle.std.specs.List.{position_or_len};
 ghost use Rattle.std.specs.Char.{is_whitespace, is_ascii_digit};
 ghost use Rattle.lic_kind.specs.LineRules.{LineRules, rules_of};
-ghost use Rattle.lic_trim.specs.Leads.{AreLeads};
+ghost use Rattle.lic_trim.specs.Beginnings.{HasBegun};
 ghost use Rattle.lic_trim.specs.Lines.{cut_of, is_item_form, item_length, whole_line};
 ghost use Rattle.lic_trim.specs.Texts.{is_sequence, longest_front};
 ghost use Rattle.lic_trim.specs.Spaces.{TakesSpaces};
-ghost use Rattle.lic_trim.specs.Walks.{walked, is_walked_piece, may_begin_with_any, End};
+ghost use Rattle.lic_trim.specs.Walks.{walked, is_walked_piece};
 
 use crate::ascii_sequences::sequence_by_places;
-use crate::ascii_texts::any_stands;
 use crate::cut::LineCut;
 use crate::item::{is_roman_digit, item_length};
-use crate::leads::Leads;
 use crate::sequences::longest_sequence;
 use crate::side::Side;
 use crate::source::{SourceChar, place};
-use crate::space_sequences::quick_table;
-use lic_kind::{RuleKind, Rules};
+use crate::space_sequences::begun_texts;
+use lic_kind::Rules;
 use std::alloc::{AllocError, Global};
 
 /// The byte at this place of the way.
@@ -77,37 +75,16 @@ fn three_alike(side: Side, line: &[u8], place: usize) -> bool
         && byte_at(line, side, place + 2) == byte
 }
 
-/// Whether no text of a tail is at this place on the way from the line's end, and none begins there in white space.
-fn has_no_tail_text(rules: &Rules, line: &[u8], place: usize) -> bool
-    requires { place < length line.now }
-    ensures { IsTrue result → may_begin_with_any (rules_of rules.now) End (drop place (walked End line.now)) ≡ false }
-{
-    if quick_table(rules, Side::End, ' ') {
-        return false;
-    }
-    if any_stands(Side::End, rules.texts(RuleKind::Tail), line, place) {
-        return false;
-    }
-    if any_stands(Side::End, rules.texts(RuleKind::TailSpace), line, place) {
-        return false;
-    }
-    !any_stands(Side::End, rules.texts(RuleKind::TailRepeat), line, place)
-}
-
-/// Whether no text of this side is at this place of the way, and none begins in white space. Mostly the character there shows it;
-/// many lines end in a character that a text ends in, and have no tail.
+/// Which texts of a side may be at this place of the way: text i has bit i, and one of another kind another bit. Nothing is said where
+/// more may be than a mask has bits for.
 #[inline(always)]
-fn has_no_text(rules: &Rules, side: Side, line: &[u8], place: usize) -> bool
+pub(crate) fn begun_at(rules: &Rules, side: Side, line: &[u8], place: usize) -> Option<u64>
     requires { place < length line.now }
-    ensures { IsTrue result → may_begin_with_any (rules_of rules.now) side (drop place (walked side line.now)) ≡ false }
+    ensures { IfSome result (λ mask. HasBegun (rules_of rules.now) side (drop place (walked side line.now)) mask) }
 {
-    if !quick_table(rules, side, byte_at(line, side, place) as char) {
-        return true;
-    }
-    match side {
-        Side::Front => false,
-        Side::End => has_no_tail_text(rules, line, place),
-    }
+    let first = byte_at(line, side, place) as char;
+    let second = byte_after(line, side, place) as char;
+    begun_texts(rules, side, first, second)
 }
 
 /// How long the longest sequence of pieces is where it is white space alone, as far as the text after that shows.
@@ -127,7 +104,8 @@ fn space_sequence(rules: &Rules, side: Side, line: &[u8]) -> Option<usize>
     if three_alike(side, line, count) {
         return None;
     }
-    if !has_no_text(rules, side, line, count) {
+    let begun = begun_at(rules, side, line, count)?;
+    if begun != 0 {
         return None;
     }
     Some(count)
@@ -212,12 +190,10 @@ fn has_no_item(line: &[u8]) -> bool
 fn sequence_of_ascii(
     alloc: Global,
     rules: &Rules,
-    leads: &Leads,
     side: Side,
     line: &[u8],
     characters: &mut Vec<SourceChar>,
 ) -> Result<usize, AllocError>
-    requires known { AreLeads leads.now (rules_of rules.now).lead }
     requires ascii { IsAscii line.now }
     requires fits { length line.now < 2 ^ 32 }
     ensures sequence { IfOk result (λ n. n
@@ -228,7 +204,7 @@ fn sequence_of_ascii(
     if let Some(count) = space_sequence(rules, side, line) {
         return Ok(count);
     }
-    if let Some(count) = sequence_by_places(rules, leads, side, line) {
+    if let Some(count) = sequence_by_places(rules, side, line) {
         return Ok(count);
     }
     place(characters, 0, line)?;
@@ -273,31 +249,6 @@ pub fn takes_spaces(rules: &Rules, line: &[u8]) -> bool
     true
 }
 
-/// What is taken from a whole line of ASCII, by what is known of its rules' leads. The characters are room for those of the line,
-/// whatever they hold.
-///
-/// The error is that memory ran out.
-pub fn cut_by_leads(
-    alloc: Global,
-    rules: &Rules,
-    leads: &Leads,
-    line: &[u8],
-    characters: &mut Vec<SourceChar>,
-) -> Result<LineCut, AllocError>
-    requires known { AreLeads leads.now (rules_of rules.now).lead }
-    requires ascii { IsAscii line.now }
-    requires fits { length line.now < 2 ^ 32 }
-    ensures cut { IfOk result (λ cut. cut ≡ cut_of (rules_of rules.now) whole_line line.now) }
-    ensures within { IfOk result (λ cut. cut.lead + cut.item + cut.tail ≤ length line.now) }
-{
-    let lead = sequence_of_ascii(alloc, rules, leads, Side::Front, line, characters)?;
-    let rest = &line[lead..];
-    let item = item_of_ascii(rules, rest, characters)?;
-    let left = &rest[item..];
-    let tail = sequence_of_ascii(alloc, rules, leads, Side::End, left, characters)?;
-    Ok(LineCut { lead, item, tail })
-}
-
 /// What is taken from a whole line of ASCII. The characters are room for those of the line, whatever they hold.
 ///
 /// The error is that memory ran out.
@@ -312,5 +263,10 @@ pub fn cut_of_ascii(
     ensures cut { IfOk result (λ cut. cut ≡ cut_of (rules_of rules.now) whole_line line.now) }
     ensures within { IfOk result (λ cut. cut.lead + cut.item + cut.tail ≤ length line.now) }
 {
-    cut_by_leads(alloc, rules, &Leads::of(rules), line, characters)
+    let lead = sequence_of_ascii(alloc, rules, Side::Front, line, characters)?;
+    let rest = &line[lead..];
+    let item = item_of_ascii(rules, rest, characters)?;
+    let left = &rest[item..];
+    let tail = sequence_of_ascii(alloc, rules, Side::End, left, characters)?;
+    Ok(LineCut { lead, item, tail })
 }

@@ -4,22 +4,20 @@ ghost use Rattle.std.specs.Prelude.{nat_le, nat_lt, length, take, drop, reverse,
 ghost use Rattle.std.specs.Char.{is_whitespace};
 ghost use Rattle.std.specs.List.{list_any};
 ghost use Rattle.lic_kind.specs.LineRules.{texts_of, rules_of};
-ghost use Rattle.lic_trim.specs.Leads.{AreLeads};
+ghost use Rattle.lic_trim.specs.Beginnings.{HasBegun, HasBits};
 ghost use Rattle.lic_trim.specs.Leaps.{IsLongStreak, IsLeap};
 ghost use Rattle.lic_trim.specs.PieceLengths.{has_bit, begins_with_length, begins_with_separator, begins_with_spaced, goes_on, AreLengths};
 ghost use Rattle.lic_trim.specs.Texts.{is_sequence, longest_front};
-ghost use Rattle.lic_trim.specs.Walks.{walked, is_walked_piece, may_open, side_texts, side_repeated};
+ghost use Rattle.lic_trim.specs.Walks.{walked, is_walked_piece, side_texts, side_repeated};
 ghost use Rattle.lic_trim.specs.Walks.{End};
 
-use crate::ascii_cut::{byte_after, byte_at};
+use crate::ascii_cut::{begun_at, byte_after, byte_at};
 use crate::ascii_texts::stands;
-use crate::leads::Leads;
-use crate::sequences::{is_mark, reach, side_spaced};
+use crate::sequences::{is_mark, reach, side_spaced, side_texts};
 use crate::side::Side;
-use crate::space_sequences::quick_table;
 use lic_kind::{RuleKind, Rules, Texts};
 
-/// The longest text whose length is given by a bit.
+/// The longest text whose length is given by a bit, and as many texts as are looked for by bits.
 const LONGEST: usize = 62;
 
 /// The longest separator. A longer one is walked over once, and not from each of its places.
@@ -52,67 +50,43 @@ fn with_text(mask: u64, side: Side, text: &[char], line: &[u8], place: usize) ->
     Some(mask | 1 << text.len())
 }
 
-/// The lengths of the texts that come after this place of the way.
-fn text_lengths(side: Side, texts: &Texts, line: &[u8], place: usize) -> Option<u64>
-    requires { place ≤ length line.now }
-    ensures { IfSome result (λ mask. (n : ℕ) → has_bit mask n
-        ≡ list_any (λ t. begins_with_length n (drop place (walked side line.now)) (walked side t)) (texts_of texts.now)) }
-{
-    let mut mask = 0u64;
-    for i in 0..texts.len() {
-        mask = with_text(mask, side, texts.characters(i), line, place)?;
-    }
-    Some(mask)
-}
-
-/// Adds bit n where the text of this number, if there is one, has n characters and comes after this place.
+/// Adds bit n where the text of this number, if there is one, has n characters and comes after this place of the way.
 #[inline(always)]
-fn with_number(mask: u64, texts: &Texts, i: usize, line: &[u8], place: usize) -> Option<u64>
+fn with_number(
+    mask: u64,
+    side: Side,
+    texts: &Texts,
+    i: usize,
+    line: &[u8],
+    place: usize,
+) -> Option<u64>
     requires { place ≤ length line.now }
     ensures { IfSome result (λ new. (n : ℕ) → has_bit new n
         ≡ (has_bit mask n || (nat_lt i (length (texts_of texts.now))
-        && begins_with_length n (drop place line.now) (slice_index_or (texts_of texts.now) i [])))) }
+        && begins_with_length n (drop place (walked side line.now)) (walked side (slice_index_or (texts_of texts.now) i []))))) }
 {
     if i >= texts.len() {
         return Some(mask);
     }
-    with_text(mask, Side::Front, texts.characters(i), line, place)
+    with_text(mask, side, texts.characters(i), line, place)
 }
 
-/// The lengths of the texts of a lead that come after this place. Only those are looked at that begin as the line does here.
+/// The lengths of the texts that come after this place of the way, which may be those with a bit.
 #[inline(always)]
-fn lead_lengths(leads: &Leads, texts: &Texts, line: &[u8], place: usize) -> Option<u64>
-    requires inside { place < length line.now }
-    requires known { AreLeads leads.now (texts_of texts.now) }
+fn text_lengths(begun: u64, side: Side, texts: &Texts, line: &[u8], place: usize) -> Option<u64>
+    requires inside { place ≤ length line.now }
+    requires begun { HasBits begun side (drop place (walked side line.now)) (texts_of texts.now) }
     ensures { IfSome result (λ mask. (n : ℕ) → has_bit mask n
-        ≡ list_any (λ t. begins_with_length n (drop place line.now) t) (texts_of texts.now)) }
+        ≡ list_any (λ t. begins_with_length n (drop place (walked side line.now)) (walked side t)) (texts_of texts.now)) }
 {
-    if !leads.all {
-        return text_lengths(Side::Front, texts, line, place);
-    }
     let mut mask = 0u64;
-    let mut left = leads.firsts[line[place] as usize];
+    let mut left = begun;
     while left != 0 {
         let lowest = left.trailing_zeros() as usize;
-        mask = with_number(mask, texts, lowest, line, place)?;
+        mask = with_number(mask, side, texts, lowest, line, place)?;
         left &= left - 1;
     }
     Some(mask)
-}
-
-/// The lengths of the texts of this side that come after this place of the way.
-#[inline(always)]
-fn side_lengths(rules: &Rules, leads: &Leads, side: Side, line: &[u8], place: usize) -> Option<u64>
-    requires inside { place < length line.now }
-    requires known { AreLeads leads.now (rules_of rules.now).lead }
-    ensures { IfSome result (λ mask. (n : ℕ) → has_bit mask n
-        ≡ list_any (λ t. begins_with_length n (drop place (walked side line.now)) (walked side t))
-        (side_texts (rules_of rules.now) side)) }
-{
-    match side {
-        Side::Front => lead_lengths(leads, rules.texts(RuleKind::Lead), line, place),
-        Side::End => text_lengths(Side::End, rules.texts(RuleKind::Tail), line, place),
-    }
 }
 
 /// Whether white space is at this place of the way.
@@ -147,6 +121,7 @@ fn with_spaced(mask: u64, side: Side, text: &[char], line: &[u8], place: usize) 
 }
 
 /// The lengths of the texts that come after this place of the way with one white space character after them.
+#[inline(always)]
 fn spaced_lengths(side: Side, texts: &Texts, line: &[u8], place: usize) -> Option<u64>
     requires { place ≤ length line.now }
     ensures { IfSome result (λ mask. (n : ℕ) → has_bit mask n
@@ -160,6 +135,7 @@ fn spaced_lengths(side: Side, texts: &Texts, line: &[u8], place: usize) -> Optio
 }
 
 /// Whether a text comes after this place on the way from a line's end, and its first character once more.
+#[inline(always)]
 fn goes_on(text: &[char], line: &[u8], place: usize) -> bool
     requires { place ≤ length line.now }
     ensures { result ≡ false → goes_on (drop place (walked End line.now)) text.now ≡ false }
@@ -177,6 +153,7 @@ fn goes_on(text: &[char], line: &[u8], place: usize) -> bool
 }
 
 /// Whether one of these texts does.
+#[inline(always)]
 fn any_goes_on(texts: &Texts, line: &[u8], place: usize) -> bool
     requires { place ≤ length line.now }
     ensures { result ≡ false → list_any (goes_on (drop place (walked End line.now))) (texts_of texts.now) ≡ false }
@@ -189,7 +166,17 @@ fn any_goes_on(texts: &Texts, line: &[u8], place: usize) -> bool
     false
 }
 
+/// The lowest bits.
+#[inline(always)]
+fn below(count: usize) -> u64
+    requires { count < 64 }
+    ensures { result ≡ 2 ^ count - 1 }
+{
+    (1 << count) - 1
+}
+
 /// The lengths of the texts that repeat their first character and are here once. Nothing is said where one repeats it.
+#[inline(always)]
 fn repeated_lengths(rules: &Rules, side: Side, line: &[u8], place: usize) -> Option<u64>
     requires { place ≤ length line.now }
     ensures mask { IfSome result (λ mask. (n : ℕ) → has_bit mask n
@@ -205,7 +192,12 @@ fn repeated_lengths(rules: &Rules, side: Side, line: &[u8], place: usize) -> Opt
             if any_goes_on(texts, line, place) {
                 return None;
             }
-            Some(text_lengths(Side::End, texts, line, place)?)
+            let count = texts.len();
+            if count > LONGEST {
+                return None;
+            }
+            let all = below(count);
+            Some(text_lengths(all, Side::End, texts, line, place)?)
         }
     }
 }
@@ -255,18 +247,18 @@ fn separator_lengths(rules: &Rules, side: Side, line: &[u8], place: usize) -> Op
 }
 
 /// The lengths of the pieces that come after this place of the way. Nothing is said where that takes more than a look.
-fn piece_lengths(rules: &Rules, leads: &Leads, side: Side, line: &[u8], place: usize) -> Option<u64>
-    requires inside { place < length line.now }
-    requires known { AreLeads leads.now (rules_of rules.now).lead }
+#[inline(always)]
+fn piece_lengths(rules: &Rules, side: Side, line: &[u8], place: usize) -> Option<u64>
+    requires { place < length line.now }
     ensures { IfSome result (λ mask. AreLengths (rules_of rules.now) side (drop place (walked side line.now)) mask) }
 {
-    let c = byte_at(line, side, place) as char;
-    let space = space_length(c);
+    let space = space_length(byte_at(line, side, place) as char);
     let separators = separator_lengths(rules, side, line, place)?;
-    if !quick_table(rules, side, c) {
+    let begun = begun_at(rules, side, line, place)?;
+    if begun == 0 {
         return Some(space | separators);
     }
-    let texts = side_lengths(rules, leads, side, line, place)?;
+    let texts = text_lengths(begun, side, side_texts(rules, side), line, place)?;
     let spaced = spaced_lengths(side, side_spaced(rules, side), line, place)?;
     let repeated = repeated_lengths(rules, side, line, place)?;
     Some(((space | separators) | texts) | (spaced | repeated))
@@ -282,16 +274,8 @@ fn latest(ends: u64, at: usize, before: usize) -> usize
 
 /// Where sequences end from the next place on, bit by bit, given where they end from this place of the way on.
 #[inline(always)]
-fn next_ends(
-    rules: &Rules,
-    leads: &Leads,
-    side: Side,
-    line: &[u8],
-    at: usize,
-    ends: u64,
-) -> Option<u64>
-    requires inside { at < length line.now }
-    requires known { AreLeads leads.now (rules_of rules.now).lead }
+fn next_ends(rules: &Rules, side: Side, line: &[u8], at: usize, ends: u64) -> Option<u64>
+    requires { at < length line.now }
     ensures { IfSome result (λ next. (d : ℕ) → has_bit next d
         ≡ (has_bit ends (suc d) || (has_bit ends 0
         && (nat_le (suc d) (length (drop at (walked side line.now)))
@@ -300,34 +284,28 @@ fn next_ends(
     if ends % 2 == 0 {
         return Some(ends / 2);
     }
-    let lengths = piece_lengths(rules, leads, side, line, at)?;
+    let lengths = piece_lengths(rules, side, line, at)?;
     Some((ends | lengths) / 2)
 }
 
-/// Whether white space is here that no text begins with.
+/// Whether white space is here, and no text begins.
 #[inline(always)]
 fn is_blank_at(rules: &Rules, side: Side, line: &[u8], place: usize) -> bool
     requires { place < length line.now }
     ensures white { IsTrue result → is_whitespace (slice_index (walked side line.now) place) ≡ true }
-    ensures closed { IsTrue result → may_open (rules_of rules.now) side (slice_index (walked side line.now) place) ≡ false }
+    ensures closed { IsTrue result → HasBegun (rules_of rules.now) side (drop place (walked side line.now)) 0 }
 {
-    let c = byte_at(line, side, place) as char;
-    if !c.is_whitespace() {
+    if !(byte_at(line, side, place) as char).is_whitespace() {
         return false;
     }
-    !quick_table(rules, side, c)
-}
-
-/// The lowest bits.
-#[inline(always)]
-fn below(count: usize) -> u64
-    requires { count < 64 }
-    ensures { result ≡ 2 ^ count - 1 }
-{
-    (1 << count) - 1
+    match begun_at(rules, side, line, place) {
+        Some(begun) => begun == 0,
+        None => false,
+    }
 }
 
 /// How many of one same mark are here, where these are a separator whose length no bit gives.
+#[inline(always)]
 fn long_streak(rules: &Rules, side: Side, line: &[u8], at: usize) -> Option<usize>
     requires { at < length line.now }
     ensures { IfSome result (λ count. IsLongStreak (rules_of rules.now) (walked side line.now) at count) }
@@ -368,13 +346,8 @@ fn leap(rules: &Rules, side: Side, line: &[u8], at: usize) -> Option<(usize, u64
 
 /// How long the longest sequence of pieces is at this side of a line. Nothing is said where that takes more than looks at the places
 /// where sequences end.
-pub(crate) fn sequence_by_places(
-    rules: &Rules,
-    leads: &Leads,
-    side: Side,
-    line: &[u8],
-) -> Option<usize>
-    requires { AreLeads leads.now (rules_of rules.now).lead }
+#[inline(always)]
+pub(crate) fn sequence_by_places(rules: &Rules, side: Side, line: &[u8]) -> Option<usize>
     ensures sequence { IfSome result (λ n. n
         ≡ longest_front (is_sequence (is_walked_piece (rules_of rules.now) side))
         (walked side line.now)) }
@@ -401,7 +374,7 @@ pub(crate) fn sequence_by_places(
             }
         }
         longest = latest(ends, at, longest);
-        ends = next_ends(rules, leads, side, line, at, ends)?;
+        ends = next_ends(rules, side, line, at, ends)?;
         at += 1;
     }
     Some(latest(ends, line.len(), longest))

@@ -7,15 +7,13 @@ mod ascii_texts;
 mod cut;
 mod item;
 pub mod laws;
-mod leads;
 mod line_part;
 mod sequences;
 mod side;
 mod source;
 mod space_sequences;
 
-pub use ascii_cut::{cut_by_leads, cut_of_ascii, takes_spaces};
+pub use ascii_cut::{cut_of_ascii, takes_spaces};
 pub use cut::{LineCut, cut_line};
-pub use leads::Leads;
 pub use line_part::LinePart;
 pub use source::{SourceChar, unplaced};

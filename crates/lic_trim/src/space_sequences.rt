@@ -1,84 +1,40 @@
 //! The longest sequence of pieces at a side of a line, which is mostly white space alone.
-ghost use Rattle.std.specs.Prelude.{◌≡◌, ◌≢◌, ◌+◌, ◌<◌, ◌≤◌, ℕ, true, false, length, drop, slice_index, IfOk, IfSome};
+ghost use Rattle.std.specs.Prelude.{◌≡◌, ◌≢◌, ◌+◌, ◌<◌, ◌≤◌, ℕ, List, true, false, length, slice_index, IfOk, IfSome};
 ghost use Rattle.std.specs.Char.{is_whitespace};
-ghost use Rattle.std.specs.List.{list_any};
+ghost use Rattle.lic_trim.specs.Beginnings.{BeginsWithTwo, HasBegun};
 ghost use Rattle.lic_trim.specs.Sources.{chars_of};
-ghost use Rattle.lic_kind.specs.LineRules.{texts_of, rules_of};
+ghost use Rattle.lic_kind.specs.LineRules.{rules_of};
 ghost use Rattle.lic_trim.specs.Texts.{is_sequence, longest_front};
-ghost use Rattle.lic_trim.specs.Walks.{walked, is_walked_piece, may_open, begins_with_text, may_begin_with, may_begin_with_any};
+ghost use Rattle.lic_trim.specs.Walks.{walked, is_walked_piece};
 
-use crate::sequences::{longest_sequence, side_spaced, side_texts};
-use crate::side::{Side, char_at, is_text, part};
+use crate::sequences::longest_sequence;
+use crate::side::{Side, char_at};
 use crate::source::SourceChar;
-use lic_kind::{RuleKind, Rules, Texts};
+use lic_kind::Rules;
 use std::alloc::{AllocError, Global};
 
-/// Whether a line has a text from this place of the way on.
-fn stands(side: Side, text: &[char], line: &[SourceChar], place: usize) -> bool
-    requires { place ≤ length line.now }
-    ensures { result ≡ begins_with_text (drop place (walked side (chars_of line.now))) (walked side text.now) }
-{
-    let len = text.len();
-    if len > line.len() - place {
-        return false;
-    }
-    is_text(text, part(line, side, place, place + len))
-}
-
-/// Whether a text begins, on the way from this side, in white space, or a line has it from this place on.
-fn may_begin_with(side: Side, text: &[char], line: &[SourceChar], place: usize) -> bool
-    requires { place ≤ length line.now }
-    ensures { result ≡ may_begin_with (drop place (walked side (chars_of line.now))) (walked side text.now) }
-{
-    if text.is_empty() {
-        return false;
-    }
-    let first = match side {
-        Side::Front => text[0],
-        Side::End => text[text.len() - 1],
-    };
-    first.is_whitespace() || stands(side, text, line, place)
-}
-
-/// Whether one of these texts does.
-fn any_may_stand(side: Side, texts: &Texts, line: &[SourceChar], place: usize) -> bool
-    requires { place ≤ length line.now }
-    ensures { result ≡ list_any
-        (λ t. may_begin_with (drop place (walked side (chars_of line.now))) (walked side t))
-        (texts_of texts.now) }
-{
-    for i in 0..texts.len() {
-        if may_begin_with(side, texts.characters(i), line, place) {
-            return true;
-        }
-    }
-    false
-}
-
-/// A prefilter: false only if no text of a side begins in white space or in this character.
+/// Which texts of a side may be where a way has these two characters: text i has bit i, and one of another kind another bit. Nothing is
+/// said where more may be than a mask has bits for.
 #[inline(always)]
-pub(crate) fn quick_table(rules: &Rules, side: Side, c: char) -> bool
-    ensures { result ≡ false → may_open (rules_of rules.now) side c ≡ false }
+pub(crate) fn begun_texts(rules: &Rules, side: Side, first: char, second: char) -> Option<u64>
+    ensures { IfSome result (λ mask. (way : List ℕ) → BeginsWithTwo first second way → HasBegun (rules_of rules.now) side way mask) }
 {
     match side {
-        Side::Front => rules.may_open_lead(c),
-        Side::End => rules.may_open_tail(c),
+        Side::Front => rules.begun_leads(first, second),
+        Side::End => rules.begun_tails(first, second),
     }
 }
 
-/// Whether one of the texts of a side begins in white space, or a line has it from this place of the way on.
-fn may_begin_with_any(rules: &Rules, side: Side, line: &[SourceChar], place: usize) -> bool
-    requires { place ≤ length line.now }
-    ensures { result ≡ may_begin_with_any (rules_of rules.now) side
-        (drop place (walked side (chars_of line.now))) }
+/// The character after this place of the way, or a blank where there is none.
+fn char_after(line: &[SourceChar], side: Side, place: usize) -> char
+    requires { place < length line.now }
+    ensures { place + 1 < length line.now → result ≡ slice_index (walked side (chars_of line.now)) (place + 1) }
 {
-    let texts = any_may_stand(side, side_texts(rules, side), line, place);
-    let spaced = any_may_stand(side, side_spaced(rules, side), line, place);
-    let repeated = match side {
-        Side::Front => false,
-        Side::End => any_may_stand(side, rules.texts(RuleKind::TailRepeat), line, place),
-    };
-    texts | (spaced | repeated)
+    if line.len() - place > 1 {
+        char_at(line, side, place + 1)
+    } else {
+        ' '
+    }
 }
 
 /// How many characters on the way from a side are white space.
@@ -125,10 +81,10 @@ fn space_sequence(rules: &Rules, side: Side, line: &[SourceChar]) -> Option<usiz
     if three_alike(side, line, count) {
         return None;
     }
-    if !quick_table(rules, side, char_at(line, side, count)) {
-        return Some(count);
-    }
-    if may_begin_with_any(rules, side, line, count) {
+    let first = char_at(line, side, count);
+    let second = char_after(line, side, count);
+    let begun = begun_texts(rules, side, first, second)?;
+    if begun != 0 {
         return None;
     }
     Some(count)

@@ -11,7 +11,7 @@ returns-clause-sequence c =
     let many = length-walked side c.args.line.now in
     let known = c.spaces-count.ensures in
     longest_standing (rules_of c.args.rules.now) side (walked side c.args.line.now) c.spaces-count.result (omega arith) known.all (known.stop (omega arith))
-    (c.has_no_text.ensures c.if-not-has_no_text.false)
+    (c.in_ok-begun.ensures.closed (omega (arith, c.if-begun-ne0.false)))
     (λ lt. c.three_alike.ensures c.if-three_alike.false (omega arith))
 
 pub returns-then-count-line-clause-sequence : goal.returns-then-count-line-clause-sequence

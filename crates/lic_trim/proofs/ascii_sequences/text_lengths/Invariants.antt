@@ -1,11 +1,12 @@
-use Rattle.std.proofs.Common.{◌≡◌, ℕ, take, drop}
-use Rattle.std.specs.List.{list_any}
+use Rattle.std.proofs.Common.{drop}
 use Rattle.lic_kind.specs.LineRules.{texts_of}
-use Rattle.lic_trim.specs.PieceLengths.{has_bit, begins_with_length}
 use Rattle.lic_trim.specs.Walks.{walked}
+use Rattle.lic_trim.proofs.BegunTexts.{AreFound}
 use Rattle.lic_trim.proofs.ascii_sequences.text_lengths.Given as goal
 
--- the lengths of the texts so far
-abbrev pub invariant-loop-i : goal.invariant-loop-i
-invariant-loop-i l = (n : ℕ) → has_bit l.mask n
-    ≡ list_any (λ t. begins_with_length n (drop l.place (walked l.side l.line)) (walked l.side t)) (take l.i (texts_of l.texts))
+-- the lengths of the texts whose bits were looked at
+abbrev pub invariant-loop-left : goal.invariant-loop-left
+invariant-loop-left l = AreFound l.side (texts_of l.texts) (drop l.place (walked l.side l.line)) l.mask l.left
+
+abbrev pub decreases-loop-left : goal.decreases-loop-left
+decreases-loop-left l = l.left
