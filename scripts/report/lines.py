@@ -10,11 +10,11 @@ NONE = re.compile(r"no-grant-|same-as-|other-file-|[A-Za-z]+-exception-([\d.]+-)
 # tags of which not all is known
 UNKNOWN = re.compile(r"unknown-identifier|cut-|(OR|AND)-field(-[b-z])?$")
 EXPRESSION = re.compile(r"expression-(OR|AND|WITH)-(.*?)(-[b-d])?(-dot)?$")
-WHOLE = re.compile(r"(own-)?expression(-b|-end-\d+)?$")
-SUFFIX = re.compile(r"(-(identifier|field|notice|mention))?(-[b-z]|-dot)?$")
-TAG = "SPDX-License-Identifier: "
-# parentheses before the last identifier of an expression, by the end of a template's name
-OPENED = {"-c": "(", "-d": "(("}
+WHOLE = re.compile(r"(own-)?expression(-b|-end-\d+|-\d-dot)?$")
+SUFFIX = re.compile(r"(-(identifier|field|notice|mention))?(-[b-z])?(-dot)?$")
+# a dot inside an identifier: it neither ends a sentence nor begins a line
+JOINED = re.compile(rb"[a-z0-9+][-.+]+[a-z0-9]", re.IGNORECASE)
+LONGEST = 200
 # names of Debian and older ones, of tags and fields
 OLDER = re.compile(r"([AL]?GPL|GFDL)-?v?(\d)(\.\d)?(\+?)$", re.IGNORECASE)
 SAME = {"Expat": "MIT", "Apache-2": "Apache-2.0", "Apache2": "Apache-2.0", "BSD3": "BSD-3-Clause",
@@ -29,8 +29,6 @@ class Match:
     start: int
     end: int = 0
     values: list = field(default_factory=list)
-    # where each value begins and ends
-    spans: list = field(default_factory=list)
 
     @property
     def is_mention(self):
@@ -45,32 +43,39 @@ class Match:
             return None
         expression = EXPRESSION.match(self.id)
         if expression:
-            return f"{self.values[0]} {expression[1]} {expression[2]}"
+            return f"{' '.join(self.values[0].split())} {expression[1]} {expression[2]}"
         if WHOLE.match(self.id):
-            return " ".join(self.values[0].split())
+            # no dot of an expression has a blank before it: such a one begins the next line
+            return " ".join(re.split(r"\s+\.", self.values[0])[0].split())
         name = SUFFIX.sub("", self.id)
-        if re.search("-(identifier|field)(-[b-z]|-dot)?$", self.id):
+        if re.search("-(identifier|field)(-[b-z])?(-dot)?$", self.id):
             name = identifier(name)
         if name == "LicenseRef":
-            return f"LicenseRef-{self.values[0]}"
+            return f"LicenseRef-{first_word(self.values[0])}"
         if name == "DocumentRef":
-            return f"DocumentRef-{self.values[0]}:LicenseRef-{self.values[1]}"
+            return f"DocumentRef-{self.values[0]}:LicenseRef-{first_word(self.values[1])}"
         return name.replace("-OR-", " OR ").replace("-WITH-", " WITH ")
-
 
     @property
     def is_joined(self):
-        """Whether a dot and a word after a tag belong to it, and not to the next line: there is no blank before them, and one after the tag's colon."""
-        if self.id == "expression-b":
-            return self.values[1].startswith(".") and self.spans[0][1] == self.spans[1][0]
-        if not self.id.endswith("-dot"):
-            return False
-        expression = EXPRESSION.match(self.id)
-        if expression:
-            begin, text = self.spans[0][1], f" {expression[1]} {OPENED.get(expression[3], '')}{expression[2]}"
+        """Whether a dot after a tag belongs to it. Only the file tells; where it cannot be read, the dot does."""
+        if self.id == "expression-b" and self.values[1].startswith("."):
+            dot = self.end - len(self.values[1].encode("utf-8", "surrogateescape"))
+        elif self.id.endswith("-dot"):
+            dot = self.end - 1
         else:
-            begin, text = self.start, TAG + SUFFIX.sub("", self.id)
-        return self.spans[-1][0] == begin + len(text + ".")
+            return False
+        try:
+            with open(self.file.encode("utf-8", "surrogateescape"), "rb") as file:
+                file.seek(dot - 1)
+                return bool(JOINED.match(file.read(LONGEST)))
+        except OSError:
+            return True
+
+
+def first_word(name):
+    """A name of one's own, without a dot that ends a sentence or begins the next line."""
+    return name.split()[0].rstrip(".")
 
 
 def identifier(name):
@@ -104,7 +109,6 @@ def matches(lines):
             last = Match(plain(fields[0]), plain(fields[1]), int(fields[4]), int(fields[5]))
         elif last and len(fields) == 5:
             last.values.append(plain(fields[4]))
-            last.spans.append((int(fields[2]), int(fields[3])))
     if last:
         yield last
 

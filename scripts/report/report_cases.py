@@ -1,6 +1,7 @@
 #!/usr/bin/env python3
 """Tries what check.py, summary.py, debian.py, spdx.py and whole.py make of licscan's lines. It runs no program."""
 import sys
+import tempfile
 
 import check
 import debian
@@ -22,18 +23,22 @@ MATCHES = [
     ("MIT", [], "MIT"), ("MIT-notice-b", [], "MIT"), ("GPL-2.0-b", [], "GPL-2.0"), ("GPL-2+-field", [], "GPL-2.0-or-later"), ("Expat-field", [], "MIT"),
     ("GPL-2.0-identifier", [], "GPL-2.0-only"), ("GPL-2.0-mention", ["2"], "GPL-2.0"), ("expression-OR-MIT", ["ISC"], "ISC OR MIT"),
     ("expression-OR-MIT-b", ["ISC"], "ISC OR MIT"), ("LicenseRef-identifier-c", ["A-B.2"], "LicenseRef-A-B.2"), ("DocumentRef-identifier-b", ["A", "B-C"], "DocumentRef-A:LicenseRef-B-C"),
-    ("expression", ["(MIT OR\n Own)", "int"], "(MIT OR Own)"), ("own-expression-end-2", ["LicenseRef-A.B"], "LicenseRef-A.B"),
-    ("cut-expression-b", ["MIT OR LicenseRef-A", ".B"], None), ("cut-OR-MIT", ["ISC", "AND"], None), ("cut-MIT", ["OR"], None), ("cut-LicenseRef-b", ["A", "-"], None), ("OR-field-b", ["MIT"], None), ("MIT-field-d", [], "MIT"), ("GPL-2.0-notice-c", ["licensed", "v2"], "GPL-2.0"), ("unknown-identifier", [], None), ("no-grant-mention-b", ["not"], ""), ("other-file-notice", ["lua.h"], ""),
+    ("expression", ["(MIT OR\n Own)", "int"], "(MIT OR Own)"), ("own-expression-end-2", ["LicenseRef-A.B"], "LicenseRef-A.B"), ("expression", ["MIT OR\n LicenseRef-A\n.text", "x"], "MIT OR LicenseRef-A"),
+    ("cut-expression-b", ["MIT OR LicenseRef-A", ".B"], None), ("cut-OR-MIT", ["ISC", "AND"], None), ("cut-MIT", ["OR"], None), ("cut-LicenseRef-b", ["A", "-"], None), ("LicenseRef-identifier-c", ["A.B\n.. a"], "LicenseRef-A.B"), ("OR-field-b", ["MIT"], None), ("MIT-field-d", [], "MIT"), ("GPL-2.0-notice-c", ["licensed", "v2"], "GPL-2.0"), ("unknown-identifier", [], None), ("no-grant-mention-b", ["not"], ""), ("other-file-notice", ["lua.h"], ""),
     ("Artistic-1.0-Perl-OR-GPL-1.0-or-later-notice", [], "Artistic-1.0-Perl OR GPL-1.0-or-later"), ("GCC-exception-3.1-notice", [], ""),
     ("Apache-2.0-WITH-LLVM-exception-notice", [], "Apache-2.0 WITH LLVM-exception"),
     ("GPL-2.0-with-GCC-exception-identifier", [], "GPL-2.0-with-GCC-exception"),
 ]
-# templates of a tag at byte 3 and a dot after it, its values and where they are, and the licence: none where the dot belongs to the tag
+# templates of a tag with a dot after it, their values, a file up to the end of the match and after it, and the licence: none where the dot belongs to the tag
 DOTS = [
-    ("MIT-identifier-dot", [("Foo", 32)], None), ("MIT-identifier-dot", [("text", 33)], "MIT"), ("GPL-2.0+-identifier-dot", [("1", 37)], None),
-    ("GPL-2.0-only-identifier-dot", [("text", 50)], "GPL-2.0-only"), ("expression-OR-MIT-dot", [("ISC", 28), ("Foo", 39)], None),
-    ("expression-OR-MIT-dot", [("ISC", 28), ("text", 40)], "ISC OR MIT"), ("expression-OR-MIT-c-dot", [("ISC", 28), ("Foo", 40)], None),
-    ("expression-b", [("Own", 28), (".Foo", 31)], None), ("expression-b", [("Own", 28), (".text", 32)], "Own"), ("expression-b", [("Own", 28), (":", 31)], "Own"),
+    ("MIT-identifier-dot", [], "MIT.", "Foo", None), ("MIT-identifier-dot", [], "  MIT.", ".Foo", None), ("MIT-identifier-dot", [], "MIT.", "-Foo", None),
+    ("MIT-identifier-dot", [], "MIT\n.", "text", "MIT"), ("MIT-identifier-dot", [], "MIT\n.", ". a comment", "MIT"), ("MIT-identifier-dot", [], "MIT.", "", "MIT"),
+    ("MIT-identifier-dot", [], "MIT.", "\nint x;", "MIT"), ("GPL-2.0+-identifier-dot", [], "GPL-2.0+.", "1", None),
+    ("GPL-2.0-only-identifier-dot", [], "GPL-2.0-only\n.", "text", "GPL-2.0-only"), ("expression-OR-MIT-dot", ["ISC"], "ISC OR MIT.", "Foo", None),
+    ("expression-OR-MIT-dot", ["ISC"], "ISC OR MIT\n.", "text", "ISC OR MIT"), ("expression-OR-MIT-c-dot", ["ISC"], "ISC OR (MIT.", "Foo", None),
+    ("LicenseRef-identifier-dot", ["A"], "LicenseRef-A.", "", "LicenseRef-A"), ("LicenseRef-identifier-b-dot", ["A-B"], "LicenseRef-A-B.", " x", "LicenseRef-A-B"),
+    ("expression-b", ["Own", ".Foo"], "Own.Foo", "", None), ("expression-b", ["Own", ".text"], "Own\n.text", "", "Own"), ("expression-b", ["Own", ":"], "Own:", "", "Own"),
+    ("expression-b", ["Own", "..Foo"], "Own..Foo", "", None), ("expression-b", ["Own", ".. a"], "Own\n.. a", "", "Own"), ("expression-0-dot", ["Own"], "Own.", "", "Own"),
 ]
 # templates, and whether a whole expression is put in their place
 PLACES = [("cut-MIT", True), ("cut-OR-MIT", True), ("unknown-identifier", True), ("MIT-identifier-dot", True), ("expression-OR-MIT-c-dot", True),
@@ -80,12 +85,22 @@ PERMISSIONS = [
 ]
 
 
+def dotted(id, values, before, after):
+    """The licence of a tag that ends with a match, in a file of its own."""
+    text = "// SPDX-License-Identifier: " + before
+    with tempfile.NamedTemporaryFile("w", encoding="utf-8") as file:
+        file.write(text + after)
+        file.flush()
+        return lines.Match(file.name, id, 3, len(text), values).licence
+
+
 def main():
     tally = harness.Tally("cases of reports")
     cases = [(text, check.is_allowed(text, ALLOWED), answer) for text, answer in EXPRESSIONS]
     cases += [(id, lines.Match("f", id, 0, values=values).licence, licence) for id, values, licence in MATCHES]
-    cases += [(id, lines.Match("f", id, 3, values=[it for it, _ in values], spans=[(at, at + len(it)) for it, at in values]).licence, licence) for id, values, licence in DOTS]
-    cases += [(id, whole.is_cut([f"f\t{id}\t0\t1\t0\t9\n"]), answer) for id, answer in PLACES]
+    cases += [(f"{id} of {before + after}", dotted(id, values, before, after), licence) for id, values, before, after, licence in DOTS]
+    cases += [(id, lines.Match("no such file", id, 3).licence, None) for id in ("MIT-identifier-dot", "LicenseRef-identifier-dot")]
+    cases += [(id, whole.is_of(whole.OPEN, [f"f\t{id}\t0\t1\t0\t9\n"]), answer) for id, answer in PLACES]
     cases += [(names, debian.licence_of(names), field) for names, field, _ in FIELDS]
     cases += [(names, spdx.in_file(names), ids) for names, _, ids in FIELDS]
     cases += [(answers, debian.globs(answers), globs) for answers, globs in GLOBS]

@@ -9,7 +9,9 @@ import sys
 
 import lines
 
-CUT = re.compile(r"cut-|unknown-identifier$|.*-dot$")
+# tags that may be cut, and expressions that are
+OPEN = re.compile(r"cut-|unknown-identifier$|.*-dot$")
+CUT = re.compile(r"cut-")
 
 
 def groups(written):
@@ -28,8 +30,8 @@ def place(group):
     return fields[0], fields[4]
 
 
-def is_cut(group):
-    return bool(CUT.match(group[0].split("\t")[1]))
+def is_of(kind, group):
+    return bool(kind.match(group[0].split("\t")[1]))
 
 
 def main():
@@ -37,9 +39,9 @@ def main():
         sys.exit("usage: whole.py WHOLE < LINES")
     lines.open_streams()
     with open(sys.argv[1], encoding="utf-8", errors="surrogateescape", newline="\n") as file:
-        whole = {place(group): group for group in groups(file) if not is_cut(group)}
+        whole = {place(group): group for group in groups(file) if not is_of(CUT, group)}
     for group in groups(sys.stdin):
-        sys.stdout.writelines(whole.get(place(group), group) if is_cut(group) else group)
+        sys.stdout.writelines(whole.get(place(group), group) if is_of(OPEN, group) else group)
 
 
 if __name__ == "__main__":

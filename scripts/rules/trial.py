@@ -18,7 +18,7 @@ sys.path.append(f"{TOP}/scripts/templates")
 import starter
 
 SAYS = re.compile(rb"licen[cs]e|copyright|warrant|redistribut|public domain", re.IGNORECASE)
-SUFFIX = re.compile(r"-(identifier|field|notice|mention)(-[b-z]|-dot)?$")
+SUFFIX = re.compile(r"-(identifier|field|notice|mention)(-[b-z])?(-dot)?$")
 RANKS = {"mention": 1, "notice": 2, "identifier": 2, "field": 2}
 MAX_BYTES = 1_000_000
 FILES_OF_A_RUN = 1000

@@ -9,8 +9,8 @@ rare: a text of less than seven letters is looked for at each byte of every file
 - expression-OR-MIT, expression-AND-MIT, expression-WITH-LLVM-exception ..: an expression with this end; its beginning is a variable.
 - expression-OR-GPL-2.0-c, cut-OR-GPL-2.0-c ..: the same with the last identifier in parentheses.
 - cut-OR-MIT ..: the same, and a mark or an operator after it.
-- MIT-identifier-dot, expression-OR-MIT-dot ..: an identifier, or an expression, then a dot and a word: it goes on with them, as `GPL-2.0.1` does, or
-  the next line begins with them (`.text`), and tokens do not tell which. Two dots begin a comment in reStructuredText.
+- MIT-identifier-dot, LicenseRef-identifier-dot, expression-OR-MIT-dot ..: an identifier, or an expression, then a dot: it goes on with it, as
+  `GPL-2.0.1` does, or ends a sentence, or the next line begins with it (`.text`, `.. a comment`), and tokens do not tell which.
 - cut-MIT ..: a tag of one identifier, and a mark or an operator after it; cut-MIT-c ..: parentheses and an operator. (Three parentheses before
   the identifier are a separator, which is no token.)
 - MIT-identifier-b, cut-MIT-b ..: a tag of one identifier in parentheses, and the same with an operator after it.
@@ -35,14 +35,15 @@ OPERAND = "[-+.:()a-z0-9]{1,60}"
 OPERATOR = "(or|and|with)"
 # the marks of ASCII, as ranges of a set
 MARKS = "!-/:-@[-`{-~"
-# an operator after parentheses that end
-CLOSED = r"\){1,12} " + OPERATOR
-# the same after the first parenthesis
-PAST_PARENTHESES = r"(\){1,11} )?" + OPERATOR
 # more than any expression has: what is not there costs nothing
 MOST_OPERATORS = 100
-WORD = "[a-z0-9]{1,40}"
-JOINED = "[-._]{1,9}"
+MOST_PARENTHESES = 100
+# an operator after parentheses that end
+CLOSED = rf"\){{1,{MOST_PARENTHESES}}} " + OPERATOR
+# the same after the first parenthesis
+PAST_PARENTHESES = rf"(\){{1,{MOST_PARENTHESES}}} )?" + OPERATOR
+WORD = "[a-z0-9]{1,200}"
+JOINED = "[-._]{1,40}"
 OWN = "[-._a-z0-9]{0,400}[a-z0-9]"
 LONGEST_IDENTIFIER = 8
 LETTERS = ["", *(f"-{letter}" for letter in "bcdefgh")]
@@ -57,12 +58,6 @@ OpenSSL-exception""".split()
 
 def variable(name, original, pattern):
     return f'<<var;name="{name}";original="{original}";match="{pattern}">>'
-
-
-def dot(identifier, identifiers):
-    """A dot and a word after an identifier, but for a digit that makes it another one. The dot is a text, so that only files with it are gone over."""
-    others = "".join(it[len(identifier) + 1:] for it in identifiers if it.startswith(identifier + "."))
-    return "." + variable("next", "text", f"-?([^ {others}{MARKS}]|[^ {MARKS}]{{2,200}})")
 
 
 def more(identifier, identifiers, *others):
@@ -99,7 +94,7 @@ def expressions():
             yield f"expression-{operator}-{last}{letter}", tag + first + end
             yield f"cut-{operator}-{last}{letter}", tag + first + end + more(last, LAST, CLOSED)
         for letter, end in dotted_ends(operator, last):
-            yield f"expression-{operator}-{last}{letter}-dot", OPTIONAL_TAG + first + end + dot(last, LAST)
+            yield f"expression-{operator}-{last}{letter}-dot", OPTIONAL_TAG + first + end + "."
     for tag, last in ((OPTIONAL_TAG, "Apache-2.0"), (TAG, "MIT")):
         yield f"expression-OR-{last}-b", f"{tag}{first}/{last}"
 
@@ -109,7 +104,7 @@ def identifiers():
     known = tags.read_list(os.path.join(HERE, "tags.txt"))
     for identifier in known:
         yield f"cut-{identifier}", TAG + identifier + more(identifier, known)
-        yield f"{identifier}-identifier-dot", TAG + identifier + dot(identifier, known)
+        yield f"{identifier}-identifier-dot", TAG + identifier + "."
         yield f"cut-{identifier}-c", f"{TAG}{identifier}) {variable('next', 'OR', PAST_PARENTHESES)}"
     for identifier in [it for it in LAST if it in known]:
         yield f"{identifier}-identifier-b", f"{TAG}({identifier})"
@@ -119,8 +114,9 @@ def identifiers():
             words = WORD + (f"({JOINED}{WORD}){{{count - 1}}}" if count > 1 else "")
             whole = TAG + beginning + variable("name", "-".join(["Own"] * count), words)
             yield f"{kind}-identifier{LETTERS[count - 1]}", whole
+            yield f"{kind}-identifier{LETTERS[count - 1]}-dot", whole + "."
         yield f"cut-{kind}", f"{TAG}{beginning}{variable('name', 'Own', OWN)} {variable('next', 'OR', f'[+:]|{OPERATOR}|{CLOSED}')}"
-        yield f"cut-{kind}-b", f"{whole} {variable('next', '-', '[-._]')}"
+        yield f"cut-{kind}-b", f"{whole} {variable('next', '-', '[-_]')}"
     yield "unknown-identifier", TAG.strip()
 
 

@@ -9,7 +9,7 @@ import starter
 
 PAGE = os.path.join(starter.EXAMPLES, "TEMPLATES.md")
 RULE = re.compile(r"<<(?:var;.*?|beginOptional|endOptional)>>", re.S)
-KIND = re.compile(r"-(identifier|field|notice|mention)(-[b-z]|-dot)?$")
+KIND = re.compile(r"-(identifier|field|notice|mention)(-[b-z])?(-dot)?$")
 # they are cut at more words, too
 CUT = {"cut-LicenseRef", "cut-DocumentRef", "cut-LicenseRef-b", "cut-DocumentRef-b"}
 # letters of a text that are shown
@@ -99,7 +99,7 @@ def page():
     lines += ["## Expressions\n", wrapped("`expression-OR-MIT`: `SPDX-License-Identifier: ISC OR MIT`; `cut-OR-MIT`: the same where the tag goes on, as "
                                           "in `ISC OR MIT-Own`; `cut-MIT`: a tag that goes on after its first identifier, as `MIT OR Own`. There is such a "
                                           "one of each tag above, and `-b` of one in parentheses. With `-c` at the end: the last identifier is in parentheses, as in `ISC OR (GPL-2.0)`. With "
-                                          "`-dot`, as each tag above has it too: a dot and a word follow, as in `MIT.Foo`. The other names are") + "\n",
+                                          "`-dot`, as each tag above has it too: a dot follows, as in `MIT.Foo`. The other names are") + "\n",
               names("expression", {"expression": found["expression"].keys() - implied}, "(?!)") + "\n"]
     return "\n".join(lines)
 

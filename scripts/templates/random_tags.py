@@ -24,15 +24,15 @@ sys.path.insert(0, os.path.join(os.path.dirname(os.path.abspath(__file__)), ".."
 import lines
 
 KNOWN = tags.read_list(os.path.join(os.path.dirname(os.path.abspath(__file__)), "tags.txt"))
-WORDS = ["Own", "MIT", "Foo", "2.0", "or", "later", "and", "with", "GPL", "1", "clause", "x", "B2"]
-# what is after a tag
+WORDS = ["Own", "MIT", "Foo", "2.0", "or", "later", "and", "with", "GPL", "1", "clause", "x", "B2", "Long" * 20]
+# what is after a tag, such as a dot, and a comment in reStructuredText
 FOLLOWING = ["", "\n", "\n#include <a.h>\n", "\nint main(void);\n", "\n\nCopyright 2020 A. Author\n", "\nSPDX-License-Identifier: MIT\n",
-             "\n.text\n", "\n\n.PHONY: all\n"]
+             "\n.text\n", "\n\n.PHONY: all\n", "\n.. a comment\n", ".", ".\nint main(void);\n", ".;\n"]
 
 
 def identifier(draw):
     kind = draw.random()
-    own = draw.choice(WORDS) + "".join(draw.choice("-----.") + draw.choice(WORDS) for _ in range(draw.choice((0, 0, 1, 1, 2, 3, 5, 8))))
+    own = draw.choice(WORDS) + "".join(draw.choice(("-", "-", "-", "-", "-", ".", "..")) + draw.choice(WORDS) for _ in range(draw.choice((0, 0, 1, 1, 2, 3, 5, 8))))
     if kind < 0.5:
         found = draw.choice(expressions.LAST if kind < 0.25 else KNOWN)
         return found.rstrip("+") + "+" if draw.random() < 0.1 else found
@@ -63,15 +63,13 @@ def plain(text):
 def may_be_cut(tag, following):
     """Whether examples/expressions have too few items for a tag, or a dot before a letter, which is in the tag or follows a name of one's own."""
     items = len(re.findall(r"[-.+):]|\b(?:or|and|with)\b", tag.lower()))
-    is_dotted = re.search(r"\.[A-Za-z]", tag) or (following.strip().startswith(".") and "LicenseRef" in tag)
+    is_dotted = re.search(r"\.[A-Za-z]|\.\.", tag) or following.startswith(".") or (following.strip().startswith(".") and "LicenseRef" in tag)
     return bool(is_dotted) or (not following.strip() and items > whole_expressions.MOST_ITEMS)
 
 
 def kind_of(tag, following, match):
     """Whether a tag is whole in a match, or cut and said to be."""
-    # the value of an own identifier goes on with a dot of the next line, and shows where that begins
-    dotted = re.match(r"\s*\.\w+", following)
-    if plain(match.whole or "") in {plain(tag), plain(tag + (dotted[0] if dotted else ""))}:
+    if plain(match.whole or "") == plain(tag):
         return "whole"
     return "cut" if match.licence is None or match.id.endswith("-dot") else "wrong"
 
@@ -80,7 +78,7 @@ class Match(lines.Match):
     @property
     def whole(self):
         """What the template says of a tag, without a name of Debian made to one of SPDX."""
-        name = re.fullmatch("(?!LicenseRef|DocumentRef|unknown)(.*)-identifier(-b|-dot)?", self.id)
+        name = re.fullmatch("(?!LicenseRef|DocumentRef|unknown)(.*)-identifier(-b)?", self.id)
         return name[1] if name and not self.is_joined else self.licence
 
 
@@ -102,14 +100,14 @@ def trial(program, folder, count, operators, seed, whole=False):
             for match in lines.matches(done.stdout.splitlines()):
                 # the tag that follows some is not looked at
                 if match.start < 10:
-                    found[match.file].append(Match(**vars(match)))
-    for name, (tag, following) in drawn.items():
-        kinds = [kind_of(tag, following, match) for match in found[name]]
-        if kinds == ["whole"] or kinds == ["cut"] and (not whole or may_be_cut(tag, following)):
-            tally[kinds[0]] += 1
-        else:
-            tally["wrong"] += 1
-            faults.append(f"{tag}{following}: {[(it.id, it.values) for it in found[name]]}")
+                    found[match.file].append(Match(**dict(vars(match), file=os.path.join(place, match.file))))
+        for name, (tag, following) in drawn.items():
+            kinds = [kind_of(tag, following, match) for match in found[name]]
+            if kinds == ["whole"] or kinds == ["cut"] and (not whole or may_be_cut(tag, following)):
+                tally[kinds[0]] += 1
+            else:
+                tally["wrong"] += 1
+                faults.append(f"{tag}{following}: {[(it.id, it.values) for it in found[name]]}")
     return faults, tally
 
 

@@ -51,7 +51,7 @@ LETTER_SET = re.compile(r"\[\^?\]?[^]]*\]")
 UNBOUNDED = re.compile(r"(?<!\\)[a-z.)][*+]|,\}")
 # letters of the shortest text by which a template may be looked for
 SHORTEST_TEXT = 7
-SUFFIX = re.compile("-(identifier|field|notice)(-[b-z]|-dot)?$|(?<=-mention)-[b-z]$")
+SUFFIX = re.compile("-(identifier|field|notice)(-[b-z])?(-dot)?$|(?<=-mention)-[b-z]$")
 
 # fields that tags.py does not make: in words, of CPAN, classifiers of Python packages, choices
 BY_HAND = re.compile(r"^License|perl|[a-z]_[0-9]|=>|OSI Approved| (OR|AND)\b|\w/|>>/|, ['\"]$", re.M)
@@ -153,19 +153,25 @@ TAGS = [
     ("(GPL-2.0+)", "GPL-2.0+-identifier-b", None),
     ("(MIT) OR Own", "cut-MIT-b", "OR"),
     ("(MIT) OR ISC", "expression-OR-ISC", "(MIT)"),
-    ("MIT.Foo", "MIT-identifier-dot", "Foo"),
-    ("MIT.-Foo", "MIT-identifier-dot", "-Foo"),
-    ("MIT\n.text", "MIT-identifier-dot", "text"),
+    ("MIT.Foo", "MIT-identifier-dot", None),
+    ("MIT.-Foo", "MIT-identifier-dot", None),
+    ("MIT..Foo", "MIT-identifier-dot", None),
+    ("MIT.", "MIT-identifier-dot", None),
+    ("MIT\n.text", "MIT-identifier-dot", None),
     # a comment of reStructuredText
-    ("MIT\n.. text", "MIT-identifier", None),
-    ("GPL-2.0.1", "GPL-2.0-identifier-dot", "1"),
+    ("MIT\n.. text", "MIT-identifier-dot", None),
+    ("GPL-2.0.1", "GPL-2.0-identifier-dot", None),
     ("Python-2.0.1", "Python-2.0.1-identifier", None),
-    ("Python-2.0.12", "Python-2.0-identifier-dot", "12"),
+    ("Python-2.0.12", "Python-2.0-identifier-dot", None),
     ("MIT.Foo OR ISC", "expression-OR-ISC", "MIT.Foo"),
     ("ISC OR MIT.Foo", "expression-OR-MIT-dot", "ISC"),
     ("ISC AND (LicenseRef-A OR (MIT.Foo))", "expression-OR-MIT-c-dot", "ISC AND (LicenseRef-A"),
     ("ISC OR Apache-2.0 WITH LLVM-exception.Foo", "expression-WITH-LLVM-exception-dot", "ISC OR Apache-2.0"),
     ("LicenseRef-A.B", "LicenseRef-identifier-b", "A.B"),
+    ("LicenseRef-A-B.", "LicenseRef-identifier-c", "A-B.\\nint"),
+    ("LicenseRef-A-B.;", "LicenseRef-identifier-b-dot", "A-B"),
+    ("LicenseRef-A-" + "B" * 200, "LicenseRef-identifier-b", "A-" + "B" * 200),
+    ("MIT) ) ) ) ) ) ) ) ) ) ) ) ) ) OR Own", "cut-MIT-c", ") ) ) ) ) ) ) ) ) ) ) ) ) OR"),
     (" OR ".join(["MIT"] * 100) + " OR ISC", "expression-OR-ISC", " OR ".join(["MIT"] * 100)),
 ]
 
@@ -174,7 +180,7 @@ TAGS = [
 WHOLE_TAGS = [
     ("MIT", "expression", "MIT"), ("(MIT OR Own-1.0) AND LicenseRef-A.B", "expression", "(MIT OR Own-1.0) AND LicenseRef-A.B"),
     ("MIT-Foo AND GPL-2.0+", "expression", "MIT-Foo AND GPL-2.0+"), ("DocumentRef-A.1:LicenseRef-B WITH Own-exception", "expression", "DocumentRef-A.1:LicenseRef-B WITH Own-exception"),
-    ("GPL-2.0\n.text", "expression-b", "GPL-2.0"), ("Own: a text", "expression-b", "Own"), ("MIT OR <other>", "expression", "MIT"), ("Own/*", "expression", "Own"),
+    ("GPL-2.0\n.text", "expression-b", "GPL-2.0"), ("MIT\n.. text", "expression-b", "MIT"), ("Own.;", "expression", "Own"), ("Own: a text", "expression-b", "Own"), ("MIT OR <other>", "expression", "MIT"), ("Own/*", "expression", "Own"),
 ]
 
 
@@ -225,7 +231,7 @@ def not_made():
             subprocess.run([sys.executable, f"{HERE}/tags.py", *options, folder], check=True)
         subprocess.run([sys.executable, f"{HERE}/expressions.py", folder], check=True)
         made = read_templates(folder)
-    kept = {id: text for id, text in read_templates(starter.GRANTS).items() if re.search("-(identifier|field)(-[b-z]|-dot)?$|^expression-|^cut-", id)}
+    kept = {id: text for id, text in read_templates(starter.GRANTS).items() if re.search("-(identifier|field)(-[b-z])?(-dot)?$|^expression-|^cut-", id)}
     kept = {id: text for id, text in kept.items() if re.search("-identifier|^expression-|^cut-", id) or not BY_HAND.search(text)}
     return [f"{id}: not as tags.py makes it" for id in sorted(made.keys() | kept.keys()) if made.get(id) != kept.get(id)]
 

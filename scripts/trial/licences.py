@@ -9,7 +9,7 @@ SAME = {
     "bsd2": "bsd-2-clause", "perl": "artistic", "ntp": "hpnd", "lgpl-2.0": "lgpl-2", "cc0": "cc0-1", "wtfpl-2": "wtfpl", "fsf-unlimited": "fsfullr", "fsful": "fsfullr",
 }
 FAMILIES = "agpl lgpl gpl gfdl apache mpl artistic bsd cc-by-sa cc-by cddl cecill epl ofl".split()
-SUFFIX = re.compile(r"-(identifier|field|notice|mention)(-[b-z]|-dot)?$")
+SUFFIX = re.compile(r"-(identifier|field|notice|mention)(-[b-z])?(-dot)?$")
 
 
 def name_of(written):
