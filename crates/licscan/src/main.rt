@@ -12,6 +12,9 @@ use std::io::IsTerminal;
 use std::process::ExitCode;
 use std::str::from_utf8;
 
+/// The bytes for a word that may not be UTF-8, at first: a longer one is given more.
+const WORD_BYTES: usize = 4096;
+
 /// The words after the program's name.
 fn words_given(rt: &HostRuntime) -> Result<Vec<String>, Stop> {
     match env::args(rt) {
@@ -27,7 +30,7 @@ fn words_given(rt: &HostRuntime) -> Result<Vec<String>, Stop> {
 /// The number of the first word that is not UTF-8, the first after the program's name being 1.
 fn first_not_utf8(rt: &HostRuntime) -> Result<usize, AllocError> {
     let mut number = 1usize;
-    let mut word = vec![in rt.alloc(); 0u8; 4096]?;
+    let mut word = vec![in rt.alloc(); 0u8; WORD_BYTES]?;
     for _ in 0..usize::MAX {
         match rt.arg(number, word.as_mut_slice()) {
             Ok(len) if from_utf8(&word[..len]).is_ok() => number = number.saturating_add(1),
