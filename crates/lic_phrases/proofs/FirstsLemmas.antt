@@ -1,14 +1,14 @@
 -- What the prefilter of first texts says no to has no bound.
-use Rattle.std.proofs.Common.{◌≡◌, ◌≢◌, ◌∙◌, ◌-◌, ◌<◌, ◌*◌, ◌/◌, ◌%◌, ◌^◌, ℕ, zero, suc, min, List, [], ◌∷◌, length, get_or, Bool, true, false, ◌||◌, ◌==◌, inl, inr, refl, sym, ap, arith, true≢false}
+use Rattle.std.proofs.Common.{◌≡◌, ◌≢◌, ◌∙◌, ◌+◌, ◌-◌, ◌<◌, ◌*◌, ◌/◌, ◌%◌, ◌^◌, ℕ, zero, suc, min, List, [], ◌∷◌, length, get_or, Bool, true, false, ◌||◌, ◌==◌, inl, inr, refl, sym, ap, ap₂, subst, arith, reverse, true≢false}
 use Rattle.std.proofs.lemmas.Bool.{cases_Bool, cases_eq, cond-false, eq-eqb, or_left, or_right}
-use Rattle.std.proofs.lemmas.List.{get_or-set_same, get_or-set_other}
+use Rattle.std.proofs.lemmas.List.{get_or-reverse, get_or-set_same, get_or-set_other, length-reverse}
 use Rattle.std.proofs.lemmas.Nat.Bits.{bit_at-suc, bit_at_ones}
 use Rattle.std.specs.Prelude.{slice_set, bit_or}
 use Rattle.lic_trim.specs.PieceLengths.{has_bit}
 use Rattle.lic_trim.proofs.PieceLengths.{has_bit_or, has_bit_set}
 use Rattle.std.proofs.lemmas.Slice.Eq.{bytes_eq-Decides}
 use Rattle.std.specs.Prelude.{bytes_eq, codes}
-use Rattle.lic_phrases.specs.FirstTexts.{may_have, HasAll, HasOthers, IsPlain}
+use Rattle.lic_phrases.specs.FirstTexts.{may_have, HasAll, HasAllEnds, HasOthers, IsPlain}
 use Rattle.lic_phrases.specs.PhraseLists.{IsRaised}
 
 -- the table with one more bit
@@ -55,6 +55,37 @@ pub HasAll-raised : (old new first : List ℕ) (count : ℕ) (most_from raised :
 HasAll-raised old new first count most_from raised all r added grows text none = elim (cases_Bool (bytes_eq first text)) [
   | inl same ↦ absurd (true≢false (sym added ∙ ap (may_have new) ((bytes_eq-Decides first text).0 same) ∙ none))
   | inr other ↦ r.at_text text ∙ cond-false (bytes_eq first text) _ _ other ∙ all text (not_before old new grows text none)
+]
+
+-- ---- the table of ends
+
+-- the first of a reversed text is its last
+pub last_first : (text : List ℕ) (n : ℕ) → n + 1 ≡ length text → get_or (reverse text) 0 0 ≡ get_or text n 0
+last_first text n count = get_or-reverse text 0 0 (omega (arith, count)) ∙ ap (λ k. get_or text k 0) (let same : length text - 1 - 0 ≡ n = omega (arith, count) in same)
+
+pub may_end-is : (ends text : List ℕ) (n : ℕ) → n + 1 ≡ length text
+    → has_bit (get_or ends (get_or text n 0) 0) (min (length text) 63) ≡ may_have ends (reverse text)
+may_end-is ends text n count = at (reverse text) (length-reverse text) (last_first text n count)
+  where
+    at : (way : List ℕ) → length way ≡ length text → get_or way 0 0 ≡ get_or text n 0
+        → has_bit (get_or ends (get_or text n 0) 0) (min (length text) 63) ≡ may_have ends way
+    at [] long first = absurd (omega (arith, count))
+    at (b ∷ way) long first = ap₂ (λ k l. has_bit (get_or ends k 0) (min l 63)) (sym first) (sym long)
+
+pub may_end-added : (ends text : List ℕ) (k n : ℕ) → k + 1 ≡ length text → get_or text k 0 < length ends → n ≡ min (length text) 63
+    → may_have (with_bit ends (get_or text k 0) n) (reverse text) ≡ true
+may_end-added ends text k n count within is =
+    let last = last_first text k count in
+    subst (λ b. may_have (with_bit ends b n) (reverse text) ≡ true) last
+    (may_have-added ends (reverse text) n (omega (arith, count, length-reverse text)) (subst (λ b. b < length ends) (sym last) within)
+    (is ∙ ap (λ l. min l 63) (sym (length-reverse text))))
+
+pub HasAllEnds-raised : (old new first : List ℕ) (count : ℕ) (most_from raised : List ℕ → ℕ) → HasAllEnds old most_from
+    → IsRaised first count most_from raised → may_have new (reverse first) ≡ true
+    → ((t : List ℕ) → may_have old t ≡ true → may_have new t ≡ true) → HasAllEnds new raised
+HasAllEnds-raised old new first count most_from raised all r added grows text none = elim (cases_Bool (bytes_eq first text)) [
+  | inl same ↦ absurd (true≢false (sym added ∙ ap (λ t. may_have new (reverse t)) ((bytes_eq-Decides first text).0 same) ∙ none))
+  | inr other ↦ r.at_text text ∙ cond-false (bytes_eq first text) _ _ other ∙ all text (not_before old new grows (reverse text) none)
 ]
 
 -- ---- texts that are not plain

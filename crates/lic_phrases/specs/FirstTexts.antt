@@ -1,5 +1,5 @@
 -- The prefilter of the texts that begin a phrase.
-use Rattle.std.specs.Prelude.{◌≡◌, ◌≢◌, ◌<◌, ℕ, suc, min, Bool, true, false, List, [], ◌∷◌, length, slice_index, codes, bytes_eq}
+use Rattle.std.specs.Prelude.{◌≡◌, ◌≢◌, ◌<◌, ℕ, suc, min, Bool, true, false, List, [], ◌∷◌, length, reverse, slice_index, codes, bytes_eq}
 use Rattle.lic_trim.specs.PieceLengths.{has_bit}
 
 -- Whether the table has a bit for the first byte of a text and its length, where the last bit is for 63 bytes and more. It says yes to no text at all.
@@ -10,6 +10,10 @@ may_have lengths (first ∷ rest) = has_bit (slice_index lengths first) (min (su
 -- each text with a bound has its bit
 abbrev pub HasAll : List ℕ → (List ℕ → ℕ) → Type 0
 HasAll lengths most_from = (text : List ℕ) → may_have lengths text ≡ false → most_from text ≡ 0
+
+-- and, by its last byte, in the table of ends
+abbrev pub HasAllEnds : List ℕ → (List ℕ → ℕ) → Type 0
+HasAllEnds ends most_from = (text : List ℕ) → may_have ends (reverse text) ≡ false → most_from text ≡ 0
 
 -- A text that is no sign, no `https` and no `(`, which may begin a sign, and does not begin with an apostrophe or a hyphen, of which
 -- several side by side are one token, unless it is that alone.

@@ -1,7 +1,8 @@
 //! How many tokens a phrase has at most, by the text that it begins with.
-ghost use Rattle.std.specs.Prelude.{◌≡◌, ◌<◌, ◌∷◌, ℕ, List, length, true, unwrap_or};
+ghost use Rattle.std.specs.Prelude.{◌≡◌, ◌<◌, ◌∷◌, ℕ, List, length, min, reverse, slice_index, true, unwrap_or};
 ghost use Rattle.indexmap.specs.IndexMap.{get_by_text};
-ghost use Rattle.lic_phrases.specs.FirstTexts.{may_have, HasAll, HasOthers};
+ghost use Rattle.lic_trim.specs.PieceLengths.{has_bit};
+ghost use Rattle.lic_phrases.specs.FirstTexts.{may_have, HasAll, HasAllEnds, HasOthers};
 
 use indexmap::IndexMap;
 use std::alloc::{AllocError, Global};
@@ -22,8 +23,11 @@ pub(crate) struct Firsts {
     /// A prefilter: for each first byte, how long the texts are that begin with it, a bit for each length. It has those of texts
     /// that begin a phrase, and those that are not plain.
     lengths: [u64; BYTES],
+    /// The same for each last byte, with texts that begin a phrase alone.
+    ends: [u64; BYTES],
     ghost all: { HasAll lengths (λ text. unwrap_or (get_by_text most text) 0) },
     ghost others: { HasOthers lengths },
+    ghost all_ends: { HasAllEnds ends (λ text. unwrap_or (get_by_text most text) 0) },
 }
 
 /// Whether there is a bit for the first byte of this text and its length.
@@ -46,6 +50,36 @@ fn add(lengths: &mut [u64; BYTES], text: &str)
         return;
     }
     lengths[bytes[0] as usize] |= 1 << bytes.len().min(LONG);
+}
+
+/// Whether there is a bit for this byte and so many bytes.
+#[inline(always)]
+fn has(table: &[u64; BYTES], byte: u8, len: usize) -> bool
+    ensures { result ≡ has_bit (slice_index table.now byte) (min len 63) }
+{
+    (table[byte as usize] >> len.min(LONG)) & 1 == 1
+}
+
+/// Whether there is a bit for the last byte of this text and its length.
+#[inline(always)]
+fn may_end(ends: &[u64; BYTES], text: &str) -> bool
+    requires { 0 < length text.now }
+    ensures { result ≡ may_have ends.now (reverse text.now) }
+{
+    let bytes = text.as_bytes();
+    has(ends, bytes[bytes.len() - 1], bytes.len())
+}
+
+/// Adds a bit for the last byte of this text and its length.
+fn add_end(ends: &mut [u64; BYTES], text: &str)
+    ensures added { may_have ends.new (reverse text.now) ≡ true }
+    ensures grows { (t : List ℕ) → may_have ends.old t ≡ true → may_have ends.new t ≡ true }
+{
+    let bytes = text.as_bytes();
+    if bytes.is_empty() {
+        return;
+    }
+    ends[bytes[bytes.len() - 1] as usize] |= 1 << bytes.len().min(LONG);
 }
 
 /// Adds all bits for a first byte but that of this byte alone.
@@ -83,6 +117,7 @@ impl Firsts {
         Firsts {
             most: IndexMap::new(alloc),
             lengths: no_lengths(),
+            ends: [0; BYTES],
         }
     }
 
@@ -101,6 +136,7 @@ impl Firsts {
         let first = String::from_str(alloc, text)?;
         self.most.insert(first, most)?;
         add(&mut self.lengths, text);
+        add_end(&mut self.ends, text);
         Ok(())
     }
 
@@ -112,7 +148,7 @@ impl Firsts {
         self.most.get(text).copied().unwrap_or(0)
     }
 
-    /// The same, where mostly the prefilter has the answer.
+    /// The same, where mostly the first byte and the length or the last byte and the length have the answer.
     #[inline(always)]
     pub(crate) fn most_from(&self, text: &str) -> usize
         ensures { result ≡ bound_from self.now text.now }
@@ -121,6 +157,9 @@ impl Firsts {
             return 0;
         }
         if !text.is_empty() && !may_have(&self.lengths, text) {
+            return 0;
+        }
+        if !text.is_empty() && !may_end(&self.ends, text) {
             return 0;
         }
         self.listed(text)
