@@ -45,8 +45,8 @@ class Match:
         if expression:
             return f"{' '.join(self.values[0].split())} {expression[1]} {expression[2]}"
         if WHOLE.match(self.id):
-            # no dot of an expression has a blank before it: such a one begins the next line
-            return " ".join(re.split(r"\s+\.", self.values[0])[0].split())
+            # no dot of an expression has a blank beside it: such a one ends a sentence, or begins the next line
+            return " ".join(re.split(r"\s+\.|\.\s", self.values[0])[0].split())
         name = SUFFIX.sub("", self.id)
         if re.search("-(identifier|field)(-[b-z])?(-dot)?$", self.id):
             name = identifier(name)

@@ -23,7 +23,7 @@ MATCHES = [
     ("MIT", [], "MIT"), ("MIT-notice-b", [], "MIT"), ("GPL-2.0-b", [], "GPL-2.0"), ("GPL-2+-field", [], "GPL-2.0-or-later"), ("Expat-field", [], "MIT"),
     ("GPL-2.0-identifier", [], "GPL-2.0-only"), ("GPL-2.0-mention", ["2"], "GPL-2.0"), ("expression-OR-MIT", ["ISC"], "ISC OR MIT"),
     ("expression-OR-MIT-b", ["ISC"], "ISC OR MIT"), ("LicenseRef-identifier-c", ["A-B.2"], "LicenseRef-A-B.2"), ("DocumentRef-identifier-b", ["A", "B-C"], "DocumentRef-A:LicenseRef-B-C"),
-    ("expression", ["(MIT OR\n Own)", "int"], "(MIT OR Own)"), ("own-expression-end-2", ["LicenseRef-A.B"], "LicenseRef-A.B"), ("expression", ["MIT OR\n LicenseRef-A\n.text", "x"], "MIT OR LicenseRef-A"),
+    ("expression", ["(MIT OR\n Own)", "int"], "(MIT OR Own)"), ("own-expression-end-2", ["LicenseRef-A.B"], "LicenseRef-A.B"), ("expression", ["MIT OR\n LicenseRef-A\n.text", "x"], "MIT OR LicenseRef-A"), ("own-expression-end-2", ["LicenseRef-A.\nint"], "LicenseRef-A"),
     ("cut-expression-b", ["MIT OR LicenseRef-A", ".B"], None), ("cut-OR-MIT", ["ISC", "AND"], None), ("cut-MIT", ["OR"], None), ("cut-LicenseRef-b", ["A", "-"], None), ("LicenseRef-identifier-c", ["A.B\n.. a"], "LicenseRef-A.B"), ("OR-field-b", ["MIT"], None), ("MIT-field-d", [], "MIT"), ("GPL-2.0-notice-c", ["licensed", "v2"], "GPL-2.0"), ("unknown-identifier", [], None), ("no-grant-mention-b", ["not"], ""), ("other-file-notice", ["lua.h"], ""),
     ("Artistic-1.0-Perl-OR-GPL-1.0-or-later-notice", [], "Artistic-1.0-Perl OR GPL-1.0-or-later"), ("GCC-exception-3.1-notice", [], ""),
     ("Apache-2.0-WITH-LLVM-exception-notice", [], "Apache-2.0 WITH LLVM-exception"),

@@ -79,7 +79,7 @@ def templates():
     yield "cut-expression-b", f"{TAG}{variable('expression', 'MIT OR LicenseRef-Own', OWN_LAST)} {variable('next', '.text', DOT)}"
     for dots in range(MOST_DOTS + 1):
         yield f"expression-{dots}-dot", with_dots(dots)
-    for name, word, first, item in (("expression", "Own", NO_REF, ITEM), ("own-expression", "LicenseRef", REF, rf"{ITEM}|\.{WORD}")):
+    for name, word, first, item in (("expression", "Own", NO_REF, ITEM), ("own-expression", "LicenseRef", REF, rf"{ITEM}|\.{{1,2}}{WORD}")):
         for items in range(MOST_ITEMS + 1):
             yield f"{name}-end-{items}", at_end(word, first, item, items)
         yield f"cut-{name}", at_end(word, first, item, MOST_ITEMS + 1)
