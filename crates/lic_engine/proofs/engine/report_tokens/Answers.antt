@@ -1,8 +1,7 @@
-use Rattle.std.proofs.Common.{rules, ◌≡◌, ◌∙◌, ◌++◌, ◌<◌, ◌≤◌, ◌+◌, length, take, drop, sym, ap, subst, nat_lt}
+use Rattle.std.proofs.Common.{rules, ◌≡◌, ◌∙◌, ◌<◌, ◌≤◌, ◌+◌, length, take, drop, sym, subst, nat_lt}
 use Rattle.std.proofs.lemmas.List.{take-append-drop}
 use Rattle.std.specs.Io.KnownBytes.{Appends}
 use Rattle.lic_stream.specs.Stream.{BeginsWith}
-use Rattle.lic_fields.specs.Fields.{escaped, field}
 use Rattle.lic_report.specs.Report.{token_line, token_lines}
 use Rattle.lic_stream.proofs.Written.{IsPut, put_begins, put_begins_within, put_more}
 use Rattle.lic_engine.proofs.ReportLemmas.{some_tokens, put_token, put_tokens, begins_tokens}
