@@ -21,6 +21,7 @@ use Rattle.lic_arguments.specs.declared.after.Given.{Given}
 use Rattle.lic_arguments.specs.declared.fault.ArgumentFault.{ArgumentFault}
 use Rattle.lic_engine.specs.Checking.{Checked, IsCheckReport, says_yes}
 use Rattle.lic_engine.specs.Failures.{CountsWrites}
+use Rattle.lic_engine.specs.Stream.{one_more}
 use Rattle.lic_engine.specs.declared.fault.RunFault.{RunFault}
 use Rattle.lic_engine.specs.declared.fault.RunFault.TheVariants as fault
 use Rattle.lic_load.specs.Listings.{count_of_names}
@@ -30,10 +31,11 @@ use Rattle.lic_load.specs.declared.templates.Listing.{Listing}
 use Rattle.lic_command.specs.Commands.{AreLoaded, AreRulesFor, HasChecked, HasEnded, HasListed, HasScanned, IsListFor}
 use Rattle.lic_command.specs.Commands.HasEnded.{helped, stopped}
 use Rattle.lic_command.specs.Lines.{AreWritten}
-use Rattle.lic_command.specs.Outcomes.{CountsStops, StopsForWrites}
+use Rattle.lic_command.specs.Outcomes.{CountsStops, IsStopAfter, StopsForWrites}
 use Rattle.lic_command.specs.Statuses.{IsStatus, IsStatusOfCheck}
 use Rattle.lic_command.specs.Reporting.{AreReported, IsStopReported}
 use Rattle.lic_command.specs.Usage.{IsFault, IsShown}
+use Rattle.lic_command.proofs.LineLemmas.{counts_more}
 use Rattle.lic_command.specs.declared.faults.Stop.{Stop}
 use Rattle.lic_command.specs.declared.faults.Stop.TheVariants.{Arguments, Load, Check, Write, Memory}
 use Rattle.lic_command.specs.declared.files.Search.{Search}
@@ -78,6 +80,19 @@ pub argument_counts : (r : Result ℕ Stop) (n : ℕ) (f : ArgumentFault) → Is
 argument_counts (Ok s) n f is = refl
 argument_counts (Err stop) n f is = subst (λ s. CountsStops {A = ℕ} (Err s) n n) (sym is) refl
 
+-- nothing is said there of what is done
+pub load_stops : {A : Type 0} (r : Result A Stop) (f : LoadFault) → IsErrAnd r (λ stop. stop ≡ Load f) → (P : A → Type 0) → IfOk r P
+load_stops (Ok x) f is P = absurd is
+load_stops (Err stop) f is P = tt
+
+pub argument_stops : {A : Type 0} (r : Result A Stop) (f : ArgumentFault) → IsErrAnd r (λ stop. stop ≡ Arguments f) → (P : A → Type 0) → IfOk r P
+argument_stops (Ok x) f is P = absurd is
+argument_stops (Err stop) f is P = tt
+
+pub files_stop : {A : Type 0} (r : Result A Stop) (stop : Stop) → IsErrAnd r (λ s. s ≡ stop) → (P : A → Type 0) → IfOk r P
+files_stop (Ok x) stop is P = absurd is
+files_stop (Err s) stop is P = tt
+
 same_counts : (old new : ℕ) (stop : Stop) → StopsForWrites {A = Written} (Err stop) old new → CountsStops {A = ℕ} (Err stop) old new
 same_counts old new Write counts = counts
 same_counts old new Memory counts = counts
@@ -90,6 +105,26 @@ pub files_count : (old new : ℕ) (r : Result ℕ Stop) (stop : Stop) → IsErrA
     → StopsForWrites {A = Written} (Err stop) old new → CountsStops r old new
 files_count old new (Ok s) stop is counts = absurd is
 files_count old new (Err s) stop is counts = subst (λ s. CountsStops {A = ℕ} (Err s) old new) (sym is) (same_counts old new stop counts)
+
+-- the work on files stops for lack of memory where a file cannot be opened for that, and a write about it has failed where one has
+pub memory_counts : (old new : ℕ) (r : Result Written Stop) (stop : Stop) → IsErrAnd r (λ s. s ≡ stop) → stop ≡ Memory → new ≡ old
+    → StopsForWrites r old new
+memory_counts old new (Ok x) stop is memory same = absurd is
+memory_counts old new (Err s) stop is memory same = subst (λ s. StopsForWrites {A = Written} (Err s) old new) (sym (is ∙ memory)) same
+
+stop_counts : (old mid new : ℕ) (answer : Result Bool RunFault) (stop : Stop) → IsStopAfter answer stop → CountsWrites answer mid new → mid ≡ old
+    → StopsForWrites {A = Written} (Err stop) old new
+stop_counts old mid new answer Write after counts same = counts.2 after ∙ ap one_more same
+stop_counts old mid new answer Memory after counts same = counts_more answer counts same after
+stop_counts old mid new answer (Arguments fault) after counts same = absurd after
+stop_counts old mid new answer (Load fault) after counts same = absurd after
+stop_counts old mid new answer (Check fault) after counts same = absurd after
+
+pub refusal_counts : (old mid new : ℕ) (answer : Result Bool RunFault) (r : Result Written Stop) (stop : Stop) → IsErrAnd r (λ s. s ≡ stop)
+    → IsStopAfter answer stop → CountsWrites answer mid new → mid ≡ old → StopsForWrites r old new
+refusal_counts old mid new answer (Ok x) stop is after counts same = absurd is
+refusal_counts old mid new answer (Err s) stop is after counts same =
+    subst (λ s. StopsForWrites {A = Written} (Err s) old new) (sym is) (stop_counts old mid new answer stop after counts same)
 
 -- a check stops the command as a write stops it
 pub check_counts : (old new : ℕ) (answer : Result Bool RunFault) (is_left_out : Bool) (r : Result ℕ Stop)

@@ -1,13 +1,13 @@
 //! The files that lines are written about.
 
-ghost use Rattle.std.specs.Prelude.{◌≡◌, ◌≢◌, ◌⊎◌, ℕ, List, codes, length, map, IfOk, IfErr, OnOk, OnErr, IsErrOf, nat_lt};
+ghost use Rattle.std.specs.Prelude.{◌≡◌, ◌≢◌, ◌⊎◌, ℕ, List, codes, length, map, IfOk, IfErr, OnOk, OnErr, IsErrOf, nat_lt, string_bytes};
 ghost use Rattle.std.specs.Io.KnownBytes.{Appends};
 ghost use Rattle.lic_engine.specs.Failures.{CountsReads, CountsWrites, Keeps};
 ghost use Rattle.lic_engine.specs.Inputs.{IsAccepted, IsRefused, IsUnrefused};
 ghost use Rattle.lic_engine.specs.Stream.{BeginsWith};
 ghost use Rattle.lic_command.specs.Lines.{AreBegun, AreLinesOf, AreWritten, HasWritten};
 ghost use Rattle.lic_command.specs.Outcomes.{IsStopAfter, IsWithOneMore, StopsForWrites};
-ghost use Rattle.lic_command.specs.Reporting.{AreReported, IsAnswerReported};
+ghost use Rattle.lic_command.specs.Reporting.{AreReported, IsAnswerReported, line_of_file};
 
 use crate::faults::Stop;
 use crate::progress::Progress;
@@ -19,7 +19,7 @@ use lic_load::{tell, wants_memory};
 use lic_norm::{TextFault, Words};
 use lic_set::Set;
 use lic_stream::{Counted, Sink, Source};
-use std::alloc::Global;
+use std::alloc::{AllocError, Global};
 use std::fs::File;
 use std::rt::Files;
 
@@ -136,6 +136,15 @@ fn write_file<Rt: Files, R: Source, W: Sink>(
     }
 }
 
+/// The line about a file that is refused.
+fn line_about(alloc: Global, name: &str, fault: &RunFault) -> Result<String, AllocError>
+    ensures { IfOk result (λ line. (why : List ℕ) × (string_bytes line ≡ line_of_file name.now why)) }
+{
+    let name = Escaped(name);
+    let why = fault.to_string(alloc)?;
+    format!(in alloc; "licscan: {name}: {why}\n")
+}
+
 /// Reports why a file is refused, if it is. A write that failed ends the run.
 fn report_refusal<E: Sink>(
     alloc: Global,
@@ -154,9 +163,7 @@ fn report_refusal<E: Sink>(
         Err(RunFault::Write) => Err(Stop::Write),
         Err(fault) => {
             files.progress.clear(err, files.names.len());
-            let name = Escaped(name);
-            let why = fault.to_string(alloc)?;
-            let line = format!(in alloc; "licscan: {name}: {why}\n")?;
+            let line = line_about(alloc, name, &fault)?;
             tell(err, line.as_str());
             Ok(())
         }

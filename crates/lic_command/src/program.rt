@@ -138,6 +138,7 @@ fn show_usage<W: Sink, E: Sink>(
         → HasEnded args progress (W.taken out.old) (W.taken out.new)
         (E.taken err.old) (E.taken err.new) (E.failed err.old) (E.failed err.new) status) }
     ensures writes { CountsStops result (W.failed out.old) (W.failed out.new) }
+    ensures few { IfOk result (λ status. status ≤ 2) }
     // Where memory ran out nothing is written.
     ensures memory { kind_of error.now ≡ ErrorKind.OutOfMemory → result ≡ Err Stop.Memory }
     ensures nothing { result ≡ Err Stop.Memory → (out.new ≡ out.old) × (err.new ≡ err.old) }

@@ -1,8 +1,9 @@
-use Rattle.std.proofs.Common.{rules, [], ◌<◌, ◌+◌, length, map, take, refl, subst, sym}
+use Rattle.std.proofs.Common.{rules, [], ◌<◌, ◌+◌, length, map, take, refl, subst, sym, ap, ◌∙◌}
 use Rattle.lic_command.specs.Lines.{AreWritten}
 use Rattle.lic_command.specs.Lines.AreWritten.{no_file}
 use Rattle.lic_command.specs.Reporting.{AreReported}
 use Rattle.lic_command.specs.Reporting.AreReported.{nothing}
+use Rattle.lic_command.proofs.CommandLemmas.{files_stop, memory_counts, refusal_counts}
 use Rattle.lic_command.proofs.LineLemmas.{begun, counts_more, reported_more, written_more}
 use Rattle.lic_command.proofs.files.write_each.Goals as goal
 
@@ -34,3 +35,20 @@ returns-in_err-report_refusal-clause-part g c =
     let within : c.loop-done.done < length c.args.files.names.now = search rules in
     begun c.from_residual-in_err-report_refusal.result c.args.work c.args.files.names.now (c.loop-done.done + 1)
     (written_more _ c.args.work c.args.files.names.now c.loop-done.done _ within c.loop-done.invariant.1 c.in_ok-answer.ensures.written c.with_one_more-written.ensures)
+
+pub returns-in_err-answer-clause-written : goal.returns-in_err-answer-clause-written
+returns-in_err-answer-clause-written g c = files_stop c.from_residual.result _ c.from_residual.ensures.1 _
+
+pub returns-in_err-answer-clause-writes : goal.returns-in_err-answer-clause-writes
+returns-in_err-answer-clause-writes g c =
+    memory_counts _ _ c.from_residual.result _ c.from_residual.ensures.1 c.in_err-answer.ensures.memory
+    (ap g.W.Sink.failed c.in_err-answer.ensures.stopped ∙ c.loop-done.invariant.3)
+
+pub returns-in_err-report_refusal-clause-written : goal.returns-in_err-report_refusal-clause-written
+returns-in_err-report_refusal-clause-written g c =
+    files_stop c.from_residual-in_err-report_refusal.result _ c.from_residual-in_err-report_refusal.ensures.1 _
+
+pub returns-in_err-report_refusal-clause-writes : goal.returns-in_err-report_refusal-clause-writes
+returns-in_err-report_refusal-clause-writes g c =
+    refusal_counts _ _ _ c.in_ok-answer.answer c.from_residual-in_err-report_refusal.result _ c.from_residual-in_err-report_refusal.ensures.1
+    c.in_err-report_refusal.ensures.stopped c.in_ok-answer.ensures.writes c.loop-done.invariant.3

@@ -26,3 +26,27 @@ returns-in-Some-subcommand_matches-2-clause-done g c =
 pub returns-clause-done : goal.returns-clause-done
 returns-clause-done g c =
     usage_ended _ _ _ _ _ _ _ c.args.progress _ c.show_usage.result c.show_usage.ensures.memory c.in-Err.ensures.fault c.show_usage.ensures.done
+
+pub returns-in-Some-clause-writes : goal.returns-in-Some-clause-writes
+returns-in-Some-clause-writes g c = c.scan.ensures.writes
+
+pub returns-in-Some-clause-few : goal.returns-in-Some-clause-few
+returns-in-Some-clause-few g c = c.scan.ensures.few
+
+pub returns-in-Some-subcommand_matches-clause-writes : goal.returns-in-Some-subcommand_matches-clause-writes
+returns-in-Some-subcommand_matches-clause-writes g c = c.check_templates.ensures.writes
+
+pub returns-in-Some-subcommand_matches-clause-few : goal.returns-in-Some-subcommand_matches-clause-few
+returns-in-Some-subcommand_matches-clause-few g c = c.check_templates.ensures.few
+
+pub returns-in-Some-subcommand_matches-2-clause-writes : goal.returns-in-Some-subcommand_matches-2-clause-writes
+returns-in-Some-subcommand_matches-2-clause-writes g c = c.tokens.ensures.writes
+
+pub returns-in-Some-subcommand_matches-2-clause-few : goal.returns-in-Some-subcommand_matches-2-clause-few
+returns-in-Some-subcommand_matches-2-clause-few g c = c.tokens.ensures.few
+
+pub returns-clause-writes : goal.returns-clause-writes
+returns-clause-writes g c = c.show_usage.ensures.writes
+
+pub returns-clause-few : goal.returns-clause-few
+returns-clause-few g c = c.show_usage.ensures.few
