@@ -67,8 +67,11 @@ def drawn(found, seed, without):
 
 def wanted_of(asked, found):
     """The packages to be tried, in this order."""
-    earlier = [drawn(found, seed, set())[:OF_A_SEED] for seed in asked.without_seeds]
-    return drawn(found, asked.seed, set(asked.without).union(*earlier))[:TRIES * asked.count]
+    earlier = set()
+    for seed in asked.without_seeds:
+        # a seed may have drawn without those that are named before it
+        earlier.update(drawn(found, seed, set())[:OF_A_SEED], drawn(found, seed, earlier)[:OF_A_SEED])
+    return drawn(found, asked.seed, set(asked.without) | earlier)[:TRIES * asked.count]
 
 
 def fetch(folder, name, environment):
@@ -95,7 +98,7 @@ def main():
     parser.add_argument("--count", type=int, default=12)
     parser.add_argument("--suite", default="bookworm")
     parser.add_argument("--without", nargs="*", default=[], help="packages that are not drawn, such as those that were looked at")
-    parser.add_argument("--without-seeds", type=int, nargs="*", default=[], help="seeds of earlier draws, whose first packages are not drawn")
+    parser.add_argument("--without-seeds", type=int, nargs="*", default=[], help="seeds of earlier draws, in their order, whose first packages are not drawn")
     parser.add_argument("--only", nargs="*", help="these packages, none is drawn")
     asked = parser.parse_args()
     environment = prepare(asked.folder, asked.suite)
