@@ -12,8 +12,11 @@ UNKNOWN = re.compile(r"unknown-identifier|cut-|(OR|AND)-field(-[b-z])?$")
 EXPRESSION = re.compile(r"expression-(OR|AND|WITH)-(.*?)(-[b-d])?(-dot)?$")
 WHOLE = re.compile(r"(own-)?expression(-b|-end-\d+|-\d-dot)?$")
 SUFFIX = re.compile(r"(-(identifier|field|notice|mention))?(-[b-z])?(-dot)?$")
-# a dot inside an identifier: it neither ends a sentence nor begins a line
+TAG = re.compile(r".*-identifier(-[b-z])?(-dot)?$|expression-")
+# marks inside an identifier: they neither end a sentence nor begin a line
 JOINED = re.compile(rb"[a-z0-9+][-.+]+[a-z0-9]", re.IGNORECASE)
+# three of one mark are a separator, which no template sees
+STREAK = re.compile(rb"[a-z0-9+](-{3,}|\.{3,}|\+{3,})[a-z0-9]", re.IGNORECASE)
 LONGEST = 200
 # names of Debian and older ones, of tags and fields
 OLDER = re.compile(r"([AL]?GPL|GFDL)-?v?(\d)(\.\d)?(\+?)$", re.IGNORECASE)
@@ -29,6 +32,7 @@ class Match:
     start: int
     end: int = 0
     values: list = field(default_factory=list)
+    starts: list = field(default_factory=list)
 
     @property
     def is_mention(self):
@@ -45,8 +49,7 @@ class Match:
         if expression:
             return f"{' '.join(self.values[0].split())} {expression[1]} {expression[2]}"
         if WHOLE.match(self.id):
-            # no dot of an expression has a blank beside it: such a one ends a sentence, or begins the next line
-            return " ".join(re.split(r"\s+\.|\.\s", self.values[0])[0].split())
+            return " ".join(self.expression.split())
         name = SUFFIX.sub("", self.id)
         if re.search("-(identifier|field)(-[b-z])?(-dot)?$", self.id):
             name = identifier(name)
@@ -57,20 +60,37 @@ class Match:
         return name.replace("-OR-", " OR ").replace("-WITH-", " WITH ")
 
     @property
+    def expression(self):
+        """A whole expression. No dot of one has a blank beside it: such a one ends a sentence, or begins the next line."""
+        return re.split(r"\s+\.|\.\s", self.values[0])[0]
+
+    @property
+    def last(self):
+        """The byte after the last word of a tag."""
+        if WHOLE.match(self.id):
+            return self.starts[0] + length(self.expression)
+        if re.match("(License|Document)Ref-identifier", self.id):
+            return self.starts[-1] + length(first_word(self.values[-1]))
+        return self.end - self.id.endswith("-dot")
+
+    @property
     def is_joined(self):
-        """Whether a dot after a tag belongs to it. Only the file tells; where it cannot be read, the dot does."""
-        if self.id == "expression-b" and self.values[1].startswith("."):
-            dot = self.end - len(self.values[1].encode("utf-8", "surrogateescape"))
-        elif self.id.endswith("-dot"):
-            dot = self.end - 1
-        else:
+        """Whether a dot after a tag, or three of one mark in it or after it, belong to it. Only the file tells; without it a dot does."""
+        if not (TAG.match(self.id) or WHOLE.match(self.id)):
             return False
         try:
             with open(self.file.encode("utf-8", "surrogateescape"), "rb") as file:
-                file.seek(dot - 1)
-                return bool(JOINED.match(file.read(LONGEST)))
+                file.seek(self.start)
+                size = self.last - self.start
+                text = file.read(size + LONGEST)
+            return bool(STREAK.search(text[:size]) or JOINED.match(text, size - 1))
         except OSError:
-            return True
+            return self.id.endswith("-dot") or (self.id == "expression-b" and self.values[1].startswith("."))
+
+
+def length(text):
+    """The bytes of a text."""
+    return len(text.encode("utf-8", "surrogateescape"))
 
 
 def first_word(name):
@@ -109,6 +129,7 @@ def matches(lines):
             last = Match(plain(fields[0]), plain(fields[1]), int(fields[4]), int(fields[5]))
         elif last and len(fields) == 5:
             last.values.append(plain(fields[4]))
+            last.starts.append(int(fields[2]))
     if last:
         yield last
 

@@ -29,8 +29,8 @@ MATCHES = [
     ("Apache-2.0-WITH-LLVM-exception-notice", [], "Apache-2.0 WITH LLVM-exception"),
     ("GPL-2.0-with-GCC-exception-identifier", [], "GPL-2.0-with-GCC-exception"),
 ]
-# templates of a tag with a dot after it, their values, a file up to the end of the match and after it, and the licence: none where the dot belongs to the tag
-DOTS = [
+# templates of a tag with marks after it or in it, their values, a file up to the end of the match and after it, and the licence: none where they belong to the tag
+MARKS = [
     ("MIT-identifier-dot", [], "MIT.", "Foo", None), ("MIT-identifier-dot", [], "  MIT.", ".Foo", None), ("MIT-identifier-dot", [], "MIT.", "-Foo", None),
     ("MIT-identifier-dot", [], "MIT\n.", "text", "MIT"), ("MIT-identifier-dot", [], "MIT\n.", ". a comment", "MIT"), ("MIT-identifier-dot", [], "MIT.", "", "MIT"),
     ("MIT-identifier-dot", [], "MIT.", "\nint x;", "MIT"), ("GPL-2.0+-identifier-dot", [], "GPL-2.0+.", "1", None),
@@ -39,6 +39,10 @@ DOTS = [
     ("LicenseRef-identifier-dot", ["A"], "LicenseRef-A.", "", "LicenseRef-A"), ("LicenseRef-identifier-b-dot", ["A-B"], "LicenseRef-A-B.", " x", "LicenseRef-A-B"),
     ("expression-b", ["Own", ".Foo"], "Own.Foo", "", None), ("expression-b", ["Own", ".text"], "Own\n.text", "", "Own"), ("expression-b", ["Own", ":"], "Own:", "", "Own"),
     ("expression-b", ["Own", "..Foo"], "Own..Foo", "", None), ("expression-b", ["Own", ".. a"], "Own\n.. a", "", "Own"), ("expression-0-dot", ["Own"], "Own.", "", "Own"),
+    ("MIT-identifier", [], "MIT", "---Foo", None), ("MIT-identifier", [], "MIT", "...Foo", None), ("MIT-identifier", [], "MIT", "---", "MIT"),
+    ("MIT-identifier", [], "MIT", " ---Foo", "MIT"), ("MIT-identifier", [], "MIT", "\n---\nFoo", "MIT"), ("expression-OR-MIT", ["ISC"], "ISC OR MIT", "+++Foo", None),
+    ("expression-OR-ISC", ["MIT"], "MIT---OR---ISC", "", None), ("LicenseRef-identifier", ["A"], "LicenseRef-A", "---B", None),
+    ("expression", ["MIT", "Foo"], "MIT---Foo", "", None), ("expression", ["MIT", "int"], "MIT\nint", "", "MIT"), ("MIT-notice", [], "MIT", "---Foo", "MIT"),
 ]
 # templates, and whether a whole expression is put in their place
 PLACES = [("cut-MIT", True), ("cut-OR-MIT", True), ("unknown-identifier", True), ("MIT-identifier-dot", True), ("expression-OR-MIT-c-dot", True),
@@ -85,21 +89,22 @@ PERMISSIONS = [
 ]
 
 
-def dotted(id, values, before, after):
+def marked(id, values, before, after):
     """The licence of a tag that ends with a match, in a file of its own."""
     text = "// SPDX-License-Identifier: " + before
+    starts = [text.index(it, len(text) - len(before)) for it in values]
     with tempfile.NamedTemporaryFile("w", encoding="utf-8") as file:
         file.write(text + after)
         file.flush()
-        return lines.Match(file.name, id, 3, len(text), values).licence
+        return lines.Match(file.name, id, 3, len(text), values, starts).licence
 
 
 def main():
     tally = harness.Tally("cases of reports")
     cases = [(text, check.is_allowed(text, ALLOWED), answer) for text, answer in EXPRESSIONS]
     cases += [(id, lines.Match("f", id, 0, values=values).licence, licence) for id, values, licence in MATCHES]
-    cases += [(f"{id} of {before + after}", dotted(id, values, before, after), licence) for id, values, before, after, licence in DOTS]
-    cases += [(id, lines.Match("no such file", id, 3).licence, None) for id in ("MIT-identifier-dot", "LicenseRef-identifier-dot")]
+    cases += [(f"{id} of {before + after}", marked(id, values, before, after), licence) for id, values, before, after, licence in MARKS]
+    cases += [(id, lines.Match("no such file", id, 3).licence, licence) for id, licence in (("MIT-identifier-dot", None), ("LicenseRef-identifier-dot", None), ("MIT-identifier", "MIT"))]
     cases += [(id, whole.is_of(whole.OPEN, [f"f\t{id}\t0\t1\t0\t9\n"]), answer) for id, answer in PLACES]
     cases += [(names, debian.licence_of(names), field) for names, field, _ in FIELDS]
     cases += [(names, spdx.in_file(names), ids) for names, _, ids in FIELDS]

@@ -24,7 +24,8 @@ each variable. What the endings of names mean is in
 """
 SECTIONS = [
     ("text", "Texts", "Whole texts, or as much of them as tells them from others."),
-    ("notice", "Notices", "Short notices, and sentences that give a licence."),
+    ("notice", "Notices", "Short notices, and sentences that give a licence. Each, but those of FreeType, libpng and CMU, was found in two unrelated projects. Where a name and a version fill a frame "
+     "(`licensed under the terms of NAME version 2`, and all fields), the frame was, and so was the name in its spelling (`scripts/trial/forms.py`)."),
     ("no-grant", "Words that give no licence", "They keep a sentence from being called a grant."),
     ("mention", "Mentions", "Names in words, in `examples/mentions`."),
 ]
@@ -89,7 +90,7 @@ def page():
     found = read()
     lines = [HEAD]
     for kind, title, sentence in SECTIONS:
-        lines += [f"## {title}\n", sentence + "\n", "\n".join(item(*it) for it in sorted(found[kind].items())) + "\n"]
+        lines += [f"## {title}\n", wrapped(sentence) + "\n", "\n".join(item(*it) for it in sorted(found[kind].items())) + "\n"]
     lines += ["## Tags\n", "`NAME-identifier`: `SPDX-License-Identifier: NAME`, such as `SPDX-License-Identifier: MIT`. NAME is\n",
               names("identifier", found, KIND) + "\n"]
     lines += ["## Fields\n", wrapped("`NAME-field`, `-b` ..: a field of a manifest or header, such as `\"license\": \"MIT\"`, `License: GPL-2+`, "

@@ -106,7 +106,7 @@ module _ (set : List Known) (runs : List TemplateRun) (numbers : List ℕ) (ts :
               ⊎_elim (λ (h : at' < place). h) (λ (late : place ≤ at').
               let (inside', is'') = number_there (λ (one : TemplateRun). one.number) runs at' run' here' in
               absurd (⊎_elim
-              (λ (behind : place < at'). omega (arith, rises (run_numbers runs) (length set) up place at' behind inside', at, is'', number', less))
+              (λ (past : place < at'). omega (arith, rises (run_numbers runs) (length set) up place at' past inside', at, is'', number', less))
               (λ (same : at' ≤ place). let e : at' ≡ place = omega arith in omega (arith, ap (λ i. get_or (run_numbers runs) i 0) e, at, is'', number', less))
               (cases_lt place at'))) (cases_lt at' place)),
         )

@@ -3,10 +3,9 @@ use Rattle.std.proofs.Common.{◌≡◌, ℕ, ◌+◌, ◌-◌, ◌<◌, ◌≤�
 use Rattle.std.specs.List.{Contains}
 use Rattle.std.proofs.lemmas.Bool.{cases_Bool, cases_lt, cond-true, cond-false}
 use Rattle.std.proofs.lemmas.Bool.Decides.{not_from_Decides}
-use Rattle.lic_set.specs.Matches.{Precedes, AreAscending}
+use Rattle.lic_set.specs.Matches.{Precedes, AreAscending, triple_at, precedes}
 use Rattle.lic_set.specs.declared.triple.Triple.{Triple}
 use Rattle.lic_bundles.specs.declared.bundle.Bundle.{Bundle}
-use Rattle.lic_bundles.specs.Bundles.{triple_at, precedes}
 use Rattle.lic_bundles.specs.Listing.{put, put_bundle, all_triples}
 use Rattle.lic_bundles.specs.Merging.{count_of}
 use Rattle.lic_bundles.proofs.Counting.{counted-head, counted-tail, counted_cases}

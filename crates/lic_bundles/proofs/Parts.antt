@@ -6,10 +6,10 @@ use Rattle.std.specs.Prelude.{nat_le}
 use Rattle.std.proofs.lemmas.Bool.{cases_lt, cases_Bool, cond-true, cond-false, le-leb, lt-leb}
 use Rattle.std.proofs.lemmas.Bool.Decides.{not_from_Decides}
 use Rattle.std.proofs.lemmas.List.Elements.{All-nil, All-cons, All-append}
-use Rattle.lic_set.specs.Matches.{Precedes, IsAfter}
+use Rattle.lic_set.specs.Matches.{Precedes, IsAfter, triple_at, precedes}
 use Rattle.lic_set.specs.declared.triple.Triple.{Triple}
 use Rattle.lic_bundles.specs.declared.bundle.Bundle.{Bundle}
-use Rattle.lic_bundles.specs.Bundles.{IsOf, triple_at, precedes, part_from, first_after, part_after}
+use Rattle.lic_bundles.specs.Bundles.{IsOf, part_from, first_after, part_after}
 use Rattle.lic_bundles.specs.Merging.{count_of}
 use Rattle.lic_bundles.proofs.Counting.{one_of, one_cases, count-cons, counted-head, counted_cases}
 use Rattle.lic_bundles.proofs.TripleOrder.{same_parts, Decides-precedes}

@@ -6,10 +6,10 @@ use Rattle.std.proofs.lemmas.Bool.{cases_lt}
 use Rattle.std.proofs.lemmas.Bool.Decides.{not_from_Decides}
 use Rattle.std.proofs.lemmas.List.Elements.{All-nil, All-cons, All-head, All-tail, All-append, All-push, All-weaker}
 use Rattle.std.proofs.lemmas.List.Quantifiers.{all_pairs_push}
-use Rattle.lic_set.specs.Matches.{Precedes}
+use Rattle.lic_set.specs.Matches.{Precedes, triple_at}
 use Rattle.lic_set.specs.declared.triple.Triple.{Triple}
 use Rattle.lic_bundles.specs.declared.bundle.Bundle.{Bundle}
-use Rattle.lic_bundles.specs.Bundles.{IsOf, triple_at, first_of, others_of}
+use Rattle.lic_bundles.specs.Bundles.{IsOf, first_of, others_of}
 use Rattle.lic_bundles.specs.Listing.{all_triples}
 use Rattle.lic_bundles.specs.Merging.{count_of, IsNoLater, IsNoLaterThanNext, AreQueues, IsTaken, comes_first}
 use Rattle.lic_bundles.proofs.Counting.{one_of, one_cases, count-cons, count-append, counted_in, counted-head, counted_cases}

@@ -4,9 +4,8 @@ use Rattle.std.specs.Bool.{Decides}
 use Rattle.std.specs.List.{Contains}
 use Rattle.std.proofs.lemmas.Bool.{cases_order}
 use Rattle.std.proofs.lemmas.Bool.Decides.{Decides-or, Decides-and, Decides-ltb, Decides-eqb}
-use Rattle.lic_set.specs.Matches.{Precedes, AreAscending}
+use Rattle.lic_set.specs.Matches.{Precedes, AreAscending, triple_at, precedes}
 use Rattle.lic_set.specs.declared.triple.Triple.{Triple}
-use Rattle.lic_bundles.specs.Bundles.{triple_at, precedes}
 
 -- triples are the same if their numbers are
 pub same_parts : (s t : Triple) → s.first ≡ t.first → s.last ≡ t.last → s.template ≡ t.template → t ≡ s
@@ -45,10 +44,6 @@ not_before s t never =
 pub no_later_trans : (s t u : Triple) → ¬ (Precedes t s) → ¬ (Precedes u t) → ¬ (Precedes u s)
 no_later_trans s t u h k = λ before.
     ⊎_elim (λ (e : s ≡ t). k (subst (Precedes u) e before)) (λ below. k (Precedes-trans u s t before below)) (not_before t s h)
-
-pub no_later_before : (s t u : Triple) → ¬ (Precedes t s) → Precedes t u → Precedes s u
-no_later_before s t u h before =
-    ⊎_elim (λ (e : s ≡ t). subst (λ r. Precedes r u) (sym e) before) (λ below. Precedes-trans s t u below before) (not_before t s h)
 
 pub Decides-precedes : (s t : Triple) → Decides (precedes s t) (Precedes s t)
 Decides-precedes s t =

@@ -1,11 +1,8 @@
 -- The triples of bundles.
 use Rattle.std.specs.Prelude.{◌≡◌, ℕ, ◌+◌, ◌≤◌, ◌==◌, ◌&&◌, ◌||◌, nat_lt, nat_le, max, Bool, if◌then◌else◌, List, Option, Some, None, Any, AllPairs, Contains, ◌↔◌}
-use Rattle.lic_set.specs.Matches.{IsAfter, AreAscending}
+use Rattle.lic_set.specs.Matches.{precedes, triple_at, IsAfter, AreAscending}
 use Rattle.lic_set.specs.declared.triple.Triple.{Triple}
 use Rattle.lic_bundles.specs.declared.bundle.Bundle.{Bundle}
-
-abbrev pub triple_at : ℕ → ℕ → ℕ → Triple
-triple_at first last template = record { first = first; last = last; template = template }
 
 -- the triple is one of the bundle's
 pub record IsOf (b : Bundle) (t : Triple) : Type 0 where
@@ -22,12 +19,6 @@ AreApart bundles = AllPairs (λ b c. (t : Triple) → IsOf b t → ¬ (IsOf c t)
 pub record AreTriples (bundles : List Bundle) (after : Option Triple) (all : List Triple) : Type 0 where
   pub ascending : AreAscending all
   pub exact : (t : Triple) → Contains all t ↔ (Any (λ b. IsOf b t) bundles × IsAfter after t)
-
--- whether the first triple comes before the second
-abbrev pub precedes : Triple → Triple → Bool
-precedes s t =
-    nat_lt s.first t.first || (s.first == t.first
-    && (nat_lt s.last t.last || (s.last == t.last && nat_lt s.template t.template)))
 
 -- the first triple of a bundle
 abbrev pub first_of : Bundle → Triple

@@ -2,7 +2,7 @@
 use Rattle.std.specs.Prelude.{ℕ, ◌+◌, ◌-◌, zero, suc, if◌then◌else◌, List, [], ◌∷◌}
 use Rattle.lic_set.specs.declared.triple.Triple.{Triple}
 use Rattle.lic_bundles.specs.declared.bundle.Bundle.{Bundle}
-use Rattle.lic_bundles.specs.Bundles.{triple_at, precedes}
+use Rattle.lic_set.specs.Matches.{triple_at, precedes}
 
 -- a triple put into an ascending list, unless it is there
 abbrev pub put : Triple → List Triple → List Triple

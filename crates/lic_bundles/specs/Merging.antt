@@ -1,9 +1,9 @@
 -- Two queues of bundles that are merged.
 use Rattle.std.specs.Prelude.{◌≡◌, ℕ, ◌+◌, ◌≤◌, ◌==◌, ◌&&◌, nat_le, Bool, true, false, List, [], ◌∷◌, ◌++◌, ◌⊎◌, All, AllPairs, count_by}
-use Rattle.lic_set.specs.Matches.{Precedes}
+use Rattle.lic_set.specs.Matches.{Precedes, triple_at, precedes}
 use Rattle.lic_set.specs.declared.triple.Triple.{Triple}
 use Rattle.lic_bundles.specs.declared.bundle.Bundle.{Bundle}
-use Rattle.lic_bundles.specs.Bundles.{triple_at, first_of, precedes}
+use Rattle.lic_bundles.specs.Bundles.{first_of}
 
 -- whether the triple is one of the bundle's
 abbrev pub is_of : Triple → Bundle → Bool

@@ -17,7 +17,7 @@ and-false : (t : Bool) → (t && false) ≡ false
 and-false true = refl
 and-false false = refl
 
-letter_low : (b : ℕ) → b < 128 → letter b < 128
+pub letter_low : (b : ℕ) → b < 128 → letter b < 128
 letter_low b small = go (kind_of b) refl
   where
     go : (k : Kind) → kind_of b ≡ k → letter b < 128

@@ -6,8 +6,8 @@ use Rattle.std.proofs.lemmas.Nat.{and_mask, shr-shr}
 use Rattle.std.specs.Prelude.{◌==◌, bit_and, bit_or}
 use Rattle.std.specs.Int.{bit_at, bit_not}
 use Rattle.std.proofs.Math.Pow.{pow_mono}
-use Rattle.lic_columns.specs.Masks.{has_bit}
 use Rattle.lic_columns.specs.Flags.{is_within}
+use Rattle.lic_trim.specs.PieceLengths.{has_bit}
 
 either : (m n : ℕ) → m < 2 → n < 2 → (max m n == 1) ≡ ((m == 1) || (n == 1))
 either zero zero p q = refl

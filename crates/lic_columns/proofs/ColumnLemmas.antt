@@ -1,16 +1,17 @@
 -- Marks column by column, bit by bit.
 use Rattle.std.proofs.Common.{◌≡◌, ℕ, zero, suc, ◌+◌, ◌*◌, ◌^◌, ◌<◌, Bool, true, false, ◌&&◌, List, length, map, get_or, refl, ap, ap₂, sym, ◌∙◌, inl, inr, arith, w64, eq-eqb}
 use Rattle.std.proofs.lemmas.Bool.{cases_lt, and_parts, eqb-true}
-use Rattle.std.proofs.lemmas.List.{get_or_past, get_or-map}
+use Rattle.std.proofs.lemmas.List.{get_or_past, get_or-map, length-map}
 use Rattle.std.proofs.lemmas.Nat.{and_le_l}
 use Rattle.std.proofs.lemmas.Nat.Bits.{bit_at-trailing_zeros}
 use Rattle.std.specs.Prelude.{◌==◌, bit_and}
 use Rattle.std.specs.Int.{trailing_zeros}
 use Rattle.lic_columns.specs.Bytes.{letter}
-use Rattle.lic_columns.specs.Masks.{has_bit, flag_at, flag_before, IsColumn, EndsBefore}
-use Rattle.lic_columns.specs.Marks.{is_same_as_next, same_as_next, middles, kept_in}
+use Rattle.lic_columns.specs.Masks.{flag_at, flag_before, IsColumn, EndsBefore}
+use Rattle.lic_columns.specs.Marks.{HaveLetters, is_same_as_next, same_as_next, middles, kept_in}
 use Rattle.lic_columns.proofs.BitLemmas.{has_bit_and}
 use Rattle.lic_columns.proofs.MarkLemmas.{same_at, kept_at}
+use Rattle.lic_trim.specs.PieceLengths.{has_bit}
 
 pub set_inside : (flags : List Bool) (k : ℕ) → flag_at flags k ≡ true → k < length flags
 set_inside flags k set = elim (cases_lt k (length flags)) [
@@ -57,10 +58,18 @@ none_after true true l x b e = absurd cc
 none_after true false l x b e = refl
 none_after false two l x b e = refl
 
-module _ (bytes letters : List ℕ) (marks : List Bool) (are : letters ≡ map letter bytes) (long : length bytes ≡ length marks) where
+-- the letters of bytes are such
+pub map_letters : (bytes letters : List ℕ) (marks : List Bool) → letters ≡ map letter bytes → length bytes ≡ length marks → HaveLetters bytes letters marks
+map_letters bytes letters marks are long = record {
+  long = ap length are ∙ length-map bytes letter;
+  alike = λ n set same.
+      ap (λ l. get_or l n 0 == get_or l (suc n) 0) are ∙ same_letter bytes n (omega (arith, set_inside marks (suc n) set, long)) same;
+}
+
+module _ (bytes letters : List ℕ) (marks : List Bool) (have : HaveLetters bytes letters marks) (long : length bytes ≡ length marks) where
   pub same_is_alike : (n : ℕ) → is_same_as_next bytes marks n ≡ (is_same_as_next letters marks n && (get_or bytes n 0 == get_or bytes (suc n) 0))
   same_is_alike n = narrower (flag_at marks n) (flag_at marks (suc n)) (get_or bytes n 0 == get_or bytes (suc n) 0) (get_or letters n 0 == get_or letters (suc n) 0)
-      (λ set same. ap (λ l. get_or l n 0 == get_or l (suc n) 0) are ∙ same_letter bytes n (omega (arith, set_inside marks (suc n) set)) same)
+      (λ set same. have.alike n set same)
 
   pub none_alike : (n : ℕ) → is_same_as_next letters marks n ≡ false → is_same_as_next bytes marks n ≡ false
   none_alike n none = same_is_alike n ∙ ap (λ t. t && (get_or bytes n 0 == get_or bytes (suc n) 0)) none

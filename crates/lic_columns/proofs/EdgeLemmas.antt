@@ -135,19 +135,19 @@ module _ (cut : LineCut) (line : List SourceChar) (within : cut.lead + cut.item 
   abbrev taken_last : List Cell
   taken_last = map cell_of (drop kept rest)
 
-  in_three : map cell_of line ≡ taken_first ++ (middle ++ taken_last)
+  pub in_three : map cell_of line ≡ taken_first ++ (middle ++ taken_last)
   in_three =
       ap (map cell_of) (sym (take-append-drop first line) ∙ ap (λ l. take first line ++ l) (sym (take-append-drop kept rest)))
       ∙ map-append cell_of (take first line) (take kept rest ++ drop kept rest)
       ∙ ap (λ l. taken_first ++ l) (map-append cell_of (take kept rest) (drop kept rest))
 
-  length_first : length taken_first ≡ first
+  pub length_first : length taken_first ≡ first
   length_first = length-map (take first line) cell_of ∙ length-take-le first line (omega arith)
 
   length_middle : length middle ≡ kept
   length_middle = length-map (take kept rest) cell_of ∙ length-take-le kept rest (omega arith)
 
-  length_last : length taken_last ≡ cut.tail
+  pub length_last : length taken_last ≡ cut.tail
   length_last = length-map (drop kept rest) cell_of ∙ length-drop kept rest ∙ (let e : length rest - kept ≡ cut.tail = omega (arith, length-drop first line) in e)
 
   pub length-standing : length (standing cut line) ≡ length line

@@ -15,7 +15,7 @@ use Rattle.lic_columns.specs.Masks.{flag_at, flag_before}
 use Rattle.lic_columns.specs.Marks.{is_same_as_next, same_as_next, middles, is_in_separator, is_joining, is_joined, joined_marks, without_separators}
 use Rattle.lic_columns.proofs.FlagLemmas.{length-listed, flag_at-listed}
 use Rattle.lic_columns.proofs.MarkLemmas.{joined_at, same_at, middle_at}
-use Rattle.lic_columns.proofs.SpanLemmas.{column_cell, column_cells, CellFits, Fit}
+use Rattle.lic_columns.proofs.SpanLemmas.{column_cell, column_cells, CellFits, Fit, MarkFits, MarksFit}
 use Rattle.lic_columns.proofs.Separators.{same_first, unmarked, is_gone, parted, one_before, two_before, parted-at}
 
 -- ---- lists of flags of cells
@@ -34,7 +34,7 @@ flag_at-cells p none (x ∷ cells) (suc k) = flag_at-cells p none cells k
 word_at : (cells : List Cell) (k : ℕ) → flag_at (words cells) k ≡ is_word (get_or cells k Blank)
 word_at = flag_at-cells is_word refl
 
-mark_at : (cells : List Cell) (k : ℕ) → flag_at (marks cells) k ≡ is_mark (get_or cells k Blank)
+pub mark_at : (cells : List Cell) (k : ℕ) → flag_at (marks cells) k ≡ is_mark (get_or cells k Blank)
 mark_at = flag_at-cells is_mark refl
 
 length-Fit : (at : ℕ) (bytes : List ℕ) (cells : List Cell) → Fit at bytes cells → length bytes ≡ length cells
@@ -100,7 +100,7 @@ same_cells Blank y a c b d f g = refl
 same_cells (Word s) y a c b d f g = refl
 
 module _ (at : ℕ) (bytes : List ℕ) (cells : List Cell) (fit : Fit at bytes cells) where
-  same_here : (k : ℕ) → is_same_as_next bytes (marks cells) k ≡ same_mark (get_or cells k Blank) (get_or cells (suc k) Blank)
+  pub same_here : (k : ℕ) → is_same_as_next bytes (marks cells) k ≡ same_mark (get_or cells k Blank) (get_or cells (suc k) Blank)
   same_here k =
       ap₂ (λ t u. (t && u) && (get_or bytes k 0 == get_or bytes (suc k) 0)) (mark_at cells k) (mark_at cells (suc k))
       ∙ elim (cases_lt (suc k) (length cells)) [
@@ -126,9 +126,13 @@ same_first-at (x ∷ []) zero = refl
 same_first-at (x ∷ y ∷ cells) zero = refl
 same_first-at (x ∷ cells) (suc k) = same_first-at cells k
 
-module _ (at : ℕ) (bytes : List ℕ) (cells : List Cell) (fit : Fit at bytes cells) where
+-- bytes side by side are one same byte exactly if their cells are one same mark, where both are marks
+abbrev pub AreSame : List ℕ → List Cell → Type 0
+AreSame bytes cells = (k : ℕ) → is_same_as_next bytes (marks cells) k ≡ same_mark (get_or cells k Blank) (get_or cells (suc k) Blank)
+
+module _ (bytes : List ℕ) (cells : List Cell) (same : AreSame bytes cells) where
   same_flag : (k : ℕ) → flag_at (same_as_next bytes (marks cells)) k ≡ same_first (drop k cells)
-  same_flag k = same_at bytes (marks cells) k ∙ same_here at bytes cells fit k ∙ sym (same_first-at cells k)
+  same_flag k = same_at bytes (marks cells) k ∙ same k ∙ sym (same_first-at cells k)
 
   before_flag : (k : ℕ) → flag_before (same_as_next bytes (marks cells)) k ≡ one_before false cells k
   before_flag zero = refl
@@ -210,16 +214,16 @@ families a b = elim (cases_eq a b) [
     differ m n h = ⊎_elim (λ hit. absurd (h (eqb-true m n hit))) (λ miss. miss) (cases_Bool (m == n))
 
 -- whether a mark is joined to the cell before it
-joined_cell : (x y : Cell) (a b c d : ℕ) → CellFits a b x → CellFits c d y → is_mark y ≡ true
+joined_cell : (x y : Cell) (b d : ℕ) → MarkFits b x → MarkFits d y → is_mark y ≡ true
     → ((is_mark y && ((is_mark x && is_mark y) && (letter b == letter d))) && is_joining (letter d)) ≡ same_family x y
-joined_cell x Blank a b c d f g h = absurd cc
-joined_cell x (Word t) a b c d f g h = absurd cc
-joined_cell Blank (Mark t) a b c d f g h = refl
-joined_cell (Word s) (Mark t) a b c d f g h = refl
-joined_cell (Mark s) (Mark t) a b c d f g h =
+joined_cell x Blank b d f g h = absurd cc
+joined_cell x (Word t) b d f g h = absurd cc
+joined_cell Blank (Mark t) b d f g h = refl
+joined_cell (Word s) (Mark t) b d f g h = refl
+joined_cell (Mark s) (Mark t) b d f g h =
     sym (families (letter b) (letter d))
-    ∙ ap₂ (λ p q. (p && (letter d == 0x27)) || (q && (letter d == 0x2D))) (sym (ap is_quote f.char ∙ f.quote)) (sym (ap is_dash f.char ∙ f.dash))
-    ∙ ap₂ (λ p q. (is_quote s.char && p) || (is_dash s.char && q)) (sym (ap is_quote g.char ∙ g.quote)) (sym (ap is_dash g.char ∙ g.dash))
+    ∙ ap₂ (λ p q. (p && (letter d == 0x27)) || (q && (letter d == 0x2D))) (sym f.quote) (sym f.dash)
+    ∙ ap₂ (λ p q. (is_quote s.char && p) || (is_dash s.char && q)) (sym g.quote) (sym g.dash)
 
 cell_by_flags : (x before : Cell) (joined : Bool) → (is_mark x ≡ true → joined ≡ same_family before x)
     → cell_of (is_word x) (is_mark x) joined ≡ column_cell before x
@@ -240,7 +244,20 @@ apart_cell (Mark s) = refl
 no_family : (x : Cell) → same_family Blank x ≡ false
 no_family x = refl
 
-module _ (at : ℕ) (bytes : List ℕ) (cells : List Cell) (fit : Fit at bytes cells) where
+length-MarksFit : (bytes : List ℕ) (cells : List Cell) → MarksFit bytes cells → length bytes ≡ length cells
+length-MarksFit [] [] fit = refl
+length-MarksFit [] (x ∷ cells) fit = absurd fit
+length-MarksFit (b ∷ bytes) [] fit = absurd fit
+length-MarksFit (b ∷ bytes) (x ∷ cells) fit = ap suc (length-MarksFit bytes cells fit.1)
+
+MarksFit-at : (bytes : List ℕ) (cells : List Cell) → MarksFit bytes cells → (k : ℕ) → k < length cells → MarkFits (get_or bytes k 0) (get_or cells k Blank)
+MarksFit-at [] [] fit k lt = absurd (omega arith)
+MarksFit-at [] (x ∷ cells) fit k lt = absurd fit
+MarksFit-at (b ∷ bytes) [] fit k lt = absurd fit
+MarksFit-at (b ∷ bytes) (x ∷ cells) fit zero lt = fit.0
+MarksFit-at (b ∷ bytes) (x ∷ cells) fit (suc k) lt = MarksFit-at bytes cells fit.1 k (omega arith)
+
+module _ (bytes : List ℕ) (cells : List Cell) (fit : MarksFit bytes cells) where
   abbrev letters : List ℕ
   letters = map letter bytes
 
@@ -257,7 +274,7 @@ module _ (at : ℕ) (bytes : List ℕ) (cells : List Cell) (fit : Fit at bytes c
   same_letters = same_at letters (marks cells)
 
   letter_at : (k : ℕ) → k < length cells → get_or letters k 0 ≡ letter (get_or bytes k 0)
-  letter_at k lt = get_or-map letter bytes k 0 0 (omega (arith, length-Fit at bytes cells fit))
+  letter_at k lt = get_or-map letter bytes k 0 0 (omega (arith, length-MarksFit bytes cells fit))
 
   inside_mark : (k : ℕ) → is_mark (get_or cells k Blank) ≡ true → k < length cells
   inside_mark k h = elim (cases_lt k (length cells)) [
@@ -276,8 +293,8 @@ module _ (at : ℕ) (bytes : List ℕ) (cells : List Cell) (fit : Fit at bytes c
       ∙ ap₂ (λ t u. (t && u) && is_joining (get_or letters (suc k) 0)) (mark_at cells (suc k))
       (same_letters k ∙ ap₂ (λ t u. (t && u) && (get_or letters k 0 == get_or letters (suc k) 0)) (mark_at cells k) (mark_at cells (suc k)))
       ∙ ap₂ (λ a b. (is_mark y && ((is_mark x && is_mark y) && (a == b))) && is_joining b) (letter_at k before) (letter_at (suc k) inside)
-      ∙ joined_cell x y (at + k) (get_or bytes k 0) (at + suc k) (get_or bytes (suc k) 0)
-      (Fit-at at bytes cells fit k before) (Fit-at at bytes cells fit (suc k) inside) h
+      ∙ joined_cell x y (get_or bytes k 0) (get_or bytes (suc k) 0)
+      (MarksFit-at bytes cells fit k before) (MarksFit-at bytes cells fit (suc k) inside) h
 
   joined_first : flag_at (joined_marks letters (marks cells)) 0 ≡ false
   joined_first = joined_here 0 ∙ none (flag_at (marks cells) 0) (is_joining (get_or letters 0 0))

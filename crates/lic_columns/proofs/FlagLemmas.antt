@@ -4,9 +4,10 @@ use Rattle.std.proofs.lemmas.Bool.{cases_lt, cases_eq}
 use Rattle.std.proofs.lemmas.List.{get_or_past, ext_get_or, length-append, length_push, get_or_push, get_or_append_left, get_or-append_right, get_or-set_same, get_or-set_other, length-set}
 use Rattle.std.proofs.lemmas.List.FromFn.{get_or-map-range_with_len, length-map-range_with_len}
 use Rattle.std.specs.List.{range_with_len}
-use Rattle.lic_columns.specs.Masks.{has_bit, flag_at, flag_before, IsMask}
+use Rattle.lic_columns.specs.Masks.{flag_at, flag_before, IsMask}
 use Rattle.lic_columns.specs.Flags.{bits_of, has, flags_in, is_within, cleared}
 use Rattle.lic_columns.proofs.BitLemmas.{has_bit_zero, has_bit_above, within_is, within_before, within_after}
+use Rattle.lic_trim.specs.PieceLengths.{has_bit}
 
 pub length-bits_of : (n mask : ℕ) → length (bits_of n mask) ≡ n
 unfolding bits_of

@@ -5,8 +5,9 @@ use Rattle.std.proofs.lemmas.Bool.{cases_eq, and_parts}
 use Rattle.std.proofs.lemmas.Nat.{and_le_r}
 use Rattle.std.proofs.lemmas.Simd.{Each1-all, Each1-weaker, Each1-zip2, Each2-splat, below_from_Fits, length-zip2, mask_l-mod, swz_l, SwzOk, SwzOk-from_below, length-swz_l, get_or-swz_l_below, tops_compared, get_or-zip2}
 use lib.Lanes.{zip2, sel_l, mask_l, top, Each1}
-use Rattle.lic_columns.specs.Masks.{IsMask, has_bit}
+use Rattle.lic_columns.specs.Masks.{IsMask}
 use Rattle.lic_columns.proofs.MaskLemmas.{IsMask-mask_l}
+use Rattle.lic_trim.specs.PieceLengths.{has_bit}
 
 abbrev pub IsBlock : List ℕ → Type 0
 IsBlock v = (length v ≡ 64) × Each1 (Fits w8) v

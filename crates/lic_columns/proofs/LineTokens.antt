@@ -30,9 +30,9 @@ use Rattle.lic_columns.specs.SpanTokens.{span_tokens}
 use Rattle.lic_columns.specs.Tokens.{kept_marks, text_cells, text_spans}
 use Rattle.lic_columns.proofs.Lanes.{every_below}
 use Rattle.lic_columns.proofs.FirstTokens.{cell_tokens}
-use Rattle.lic_columns.proofs.SpanLemmas.{column_cells, IsByte, CellFits, Fit, tokens_are}
+use Rattle.lic_columns.proofs.SpanLemmas.{column_cells, IsByte, CellFits, Fit, marks_fit, tokens_are}
 use Rattle.lic_columns.proofs.Separators.{parted, parted-alike}
-use Rattle.lic_columns.proofs.FlagCells.{words, marks, Fit-parted, words-parted, kept_are, cells_are}
+use Rattle.lic_columns.proofs.FlagCells.{words, marks, Fit-parted, words-parted, same_here, kept_are, cells_are}
 
 -- ---- a text by the cells that are in it
 
@@ -57,7 +57,7 @@ module _ (at : ℕ) (text : List ℕ) (cells : List Cell) (known : Known) (is : 
   fit_left false = is.fit
 
   kept_left : (separators : Bool) → kept_marks separators text known ≡ marks (left separators)
-  kept_left true = ap (taken.without_separators text) is.mark ∙ kept_are at text cells is.fit
+  kept_left true = ap (taken.without_separators text) is.mark ∙ kept_are text cells (same_here at text cells is.fit)
   kept_left false = is.mark
 
   words_left : (separators : Bool) → known.word ≡ words (left separators)
@@ -67,7 +67,7 @@ module _ (at : ℕ) (text : List ℕ) (cells : List Cell) (known : Known) (is : 
   cells_left : (separators : Bool) → text_cells separators text known ≡ column_cells Blank (left separators)
   cells_left separators =
       same_cells (words_left separators) (kept_left separators) is.letters
-      ∙ cells_are at text (left separators) (fit_left separators)
+      ∙ cells_are text (left separators) (marks_fit at text (left separators) (fit_left separators))
 
   tokens_left : (separators after_blank : Bool)
       → span_tokens after_blank at at known.letters (text_spans separators at text known) ≡ cell_tokens after_blank (left separators)
@@ -97,7 +97,7 @@ module _ (at : ℕ) (text : List ℕ) (cells : List Cell) (known : Known) (is : 
 -- ---- bytes of ASCII
 
 -- the character of a byte at a place
-abbrev byte_char : ℕ → ℕ → SourceChar
+abbrev pub byte_char : ℕ → ℕ → SourceChar
 byte_char at b = record { char = b; start = at; end = at + len_utf8 b }
 
 pub letter_is : (b l : ℕ) → b < 128 → spell b ≡ l ∷ [] → (is_word_kind (kind_of b) || is_mark_kind (kind_of b)) ≡ true → letter b ≡ l
@@ -136,7 +136,7 @@ off : (t : Bool) → not t ≡ true → t ≡ false
 off false h = refl
 off true h = absurd cc
 
-byte_fits : (at b : ℕ) → b < 128 → CellFits at b (cell_of (byte_char at b))
+pub byte_fits : (at b : ℕ) → b < 128 → CellFits at b (cell_of (byte_char at b))
 byte_fits at b small = go (kind_of b) refl
   where
     go : (k : Kind) → kind_of b ≡ k
@@ -163,7 +163,7 @@ byte_fits at b small = go (kind_of b) refl
           plain = ap is_joining (sym same) ∙ off (is_joining (to_ascii_lowercase b)) plain;
         }
 
-word_flag : (b : ℕ) (s : SourceChar) → s.char ≡ b → b < 128 → bytes.is_word b ≡ is_word (cell_of s)
+pub word_flag : (b : ℕ) (s : SourceChar) → s.char ≡ b → b < 128 → bytes.is_word b ≡ is_word (cell_of s)
 word_flag b s e small =
     ap (λ t. not t || is_word_kind (kind_of b)) (lt-ltb b 128 small) ∙ go (kind_of b) ∙ ap (λ c. is_word (if is_word_kind (kind_of c) then Word s else (if is_mark_kind (kind_of c) then Mark s else Blank))) (sym e)
   where
@@ -173,7 +173,7 @@ word_flag b s e small =
     go kind.Mark = refl
     go kind.Word = refl
 
-mark_flag : (b : ℕ) (s : SourceChar) → s.char ≡ b → b < 128 → bytes.is_mark b ≡ is_mark (cell_of s)
+pub mark_flag : (b : ℕ) (s : SourceChar) → s.char ≡ b → b < 128 → bytes.is_mark b ≡ is_mark (cell_of s)
 mark_flag b s e small =
     ap (λ t. t && is_mark_kind (kind_of b)) (lt-ltb b 128 small) ∙ go (kind_of b) ∙ ap (λ c. is_mark (if is_word_kind (kind_of c) then Word s else (if is_mark_kind (kind_of c) then Mark s else Blank))) (sym e)
   where

@@ -5,7 +5,8 @@ use Rattle.std.proofs.lemmas.Nat.Bits.{same_from_bits, bit_at-lt}
 use Rattle.std.specs.Prelude.{◌==◌}
 use Rattle.std.specs.Int.{bit_at}
 use Rattle.std.specs.Simd.Lanes.{mask_l}
-use Rattle.lic_columns.specs.Masks.{has_bit, IsMask}
+use Rattle.lic_columns.specs.Masks.{IsMask}
+use Rattle.lic_trim.specs.PieceLengths.{has_bit}
 
 one_if : (b : Bool) → (cond b 1 0 == 1) ≡ b
 one_if true = refl

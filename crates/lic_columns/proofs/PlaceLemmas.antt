@@ -6,12 +6,13 @@ use Rattle.std.proofs.Math.Seq.{take-add}
 use Rattle.std.proofs.lemmas.Nat.Bits.{bit_at-trailing_zeros}
 use Rattle.std.specs.Prelude.{◌==◌}
 use Rattle.std.specs.Int.{trailing_zeros}
-use Rattle.lic_columns.specs.Masks.{has_bit, flag_at}
+use Rattle.lic_columns.specs.Masks.{flag_at}
 use Rattle.lic_columns.specs.Flags.{bits_of}
 use Rattle.lic_columns.specs.Places.{places}
 use Rattle.lic_columns.proofs.BitLemmas.{has_bit_zero}
 use Rattle.lic_columns.proofs.FlagLemmas.{length-bits_of, flag_at-bits_of}
 use Rattle.lic_trim.proofs.LowestBit.{without_lowest, lowest_cleared, others_stay}
+use Rattle.lic_trim.specs.PieceLengths.{has_bit}
 
 -- the first flag that is set, and those of the others
 pub places_first : (at t : ℕ) (flags : List Bool) → flag_at flags t ≡ true → ((k : ℕ) → k < t → flag_at flags k ≡ false)

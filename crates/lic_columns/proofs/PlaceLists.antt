@@ -130,9 +130,9 @@ four_inside at mask n i rest old out is fours some =
     let e = some_left at mask i rest is.left some in
     omega (arith, fours, ap length e, length-drop i (places at (bits_of 64 mask)), few_places at mask)
 
-module _ (at mask n i rest : ℕ) (old out : List ℕ) (is : IsWritten at mask n i rest old out) (none : rest ≡ 0) (fits : mask < 2 ^ 64) (room : n + 64 ≤ length old) where
+module _ (at mask n i rest : ℕ) (old out : List ℕ) (is : IsWritten at mask n i rest old out) (none : rest ≡ 0) (fits : mask < 2 ^ 64) (bounded : n + 64 ≤ length old) where
   pub all_inside : n + count_ones mask ≤ length out
-  all_inside = omega (arith, room, is.put.size, places_of_mask at mask fits, few_places at mask)
+  all_inside = omega (arith, bounded, is.put.size, places_of_mask at mask fits, few_places at mask)
 
   pub all_written : take (n + count_ones mask) out ≡ take n old ++ places at (bits_of 64 mask)
   all_written =

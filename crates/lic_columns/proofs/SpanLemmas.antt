@@ -30,7 +30,7 @@ mark_is_no_blank : (t : Bool) → is_blank (if t then columns.Joined else column
 mark_is_no_blank true = refl
 mark_is_no_blank false = refl
 
-blank_is : (before x : Cell) → is_blank (column_cell before x) ≡ blank_cell x
+pub blank_is : (before x : Cell) → is_blank (column_cell before x) ≡ blank_cell x
 blank_is before Blank = refl
 blank_is before (Word s) = refl
 blank_is before (Mark s) = mark_is_no_blank (same_family before (Mark s))
@@ -44,7 +44,7 @@ mark_to_mark true true = refl
 mark_to_mark false true = refl
 mark_to_mark t false = refl
 
-on_is : (before x : Cell) (cells : List Cell) → continues (column_cell before x) (next_cell (column_cells x cells)) ≡ on x (next cells)
+pub on_is : (before x : Cell) (cells : List Cell) → continues (column_cell before x) (next_cell (column_cells x cells)) ≡ on x (next cells)
 on_is before Blank [] = refl
 on_is before Blank (Blank ∷ cells) = refl
 on_is before Blank (Word t ∷ cells) = refl
@@ -66,7 +66,7 @@ goes_to c columns.Word h = refl
 goes_to c columns.Mark h = refl
 goes_to c columns.Joined h = refl
 
-first_span : (at : ℕ) (c : columns.Cell) (cells : List columns.Cell) → is_blank c ≡ false
+pub first_span : (at : ℕ) (c : columns.Cell) (cells : List columns.Cell) → is_blank c ≡ false
     → (s : Span) × (rest : List Span) × (spans at (c ∷ cells) ≡ s ∷ rest) × (s.start ≡ at) × (at < s.end)
 first_span at c [] h =
     (record { start = at; end = suc at }, [], ap (λ t. with_cell at t (continues c columns.Blank) []) h, refl, omega arith)
@@ -111,6 +111,34 @@ Fit at [] (x ∷ cells) = ⊥
 Fit at (b ∷ bytes) [] = ⊥
 Fit at (b ∷ bytes) (x ∷ cells) = CellFits at b x × Fit (suc at) bytes cells
 
+-- the letter of a mark is that of quotes or of dashes exactly if it is one
+pub record IsMarkLetter (b : ℕ) (s : SourceChar) : Type 0 where
+  pub quote : is_quote s.char ≡ (letter b == 0x27)
+  pub dash : is_dash s.char ≡ (letter b == 0x2D)
+
+abbrev pub MarkFits : ℕ → Cell → Type 0
+MarkFits b Blank = Unit {0}
+MarkFits b (Mark s) = IsMarkLetter b s
+MarkFits b (Word s) = Unit {0}
+
+-- so is each mark of these
+abbrev pub MarksFit : List ℕ → List Cell → Type 0
+MarksFit [] [] = Unit {0}
+MarksFit [] (x ∷ cells) = ⊥
+MarksFit (b ∷ bytes) [] = ⊥
+MarksFit (b ∷ bytes) (x ∷ cells) = MarkFits b x × MarksFit bytes cells
+
+mark_fits : (at b : ℕ) (x : Cell) → CellFits at b x → MarkFits b x
+mark_fits at b Blank fits = tt
+mark_fits at b (Mark s) fits = record { quote = ap is_quote fits.char ∙ fits.quote; dash = ap is_dash fits.char ∙ fits.dash }
+mark_fits at b (Word s) fits = tt
+
+pub marks_fit : (at : ℕ) (bytes : List ℕ) (cells : List Cell) → Fit at bytes cells → MarksFit bytes cells
+marks_fit at [] [] fit = tt
+marks_fit at [] (x ∷ cells) fit = absurd fit
+marks_fit at (b ∷ bytes) [] fit = absurd fit
+marks_fit at (b ∷ bytes) (x ∷ cells) fit = (mark_fits at b x fit.0, marks_fit (suc at) bytes cells fit.1)
+
 -- ---- letters of a span
 
 drop_next : (i : ℕ) (full : List ℕ) (l : ℕ) (rest : List ℕ) → drop i full ≡ l ∷ rest → drop (suc i) full ≡ rest
@@ -127,40 +155,42 @@ one_letter : (t : Bool) (l : ℕ) → (if t then l ∷ [] else l ∷ []) ≡ l �
 one_letter true l = refl
 one_letter false l = refl
 
-token_text-one : (letters : List ℕ) (l : ℕ) → letters ≡ l ∷ [] → token_text letters ≡ l ∷ []
+pub token_text-one : (letters : List ℕ) (l : ℕ) → letters ≡ l ∷ [] → token_text letters ≡ l ∷ []
 token_text-one letters l e = ap token_text e ∙ one_letter (is_joining l) l
 
-token_text-word : (letters : List ℕ) (l : ℕ) (rest : List ℕ) → letters ≡ l ∷ rest → is_joining l ≡ false → token_text letters ≡ l ∷ rest
+pub token_text-word : (letters : List ℕ) (l : ℕ) (rest : List ℕ) → letters ≡ l ∷ rest → is_joining l ≡ false → token_text letters ≡ l ∷ rest
 token_text-word letters l rest e plain = ap token_text e ∙ cond-false (is_joining l) _ _ plain
 
-token_text-joined : (letters : List ℕ) (l : ℕ) (rest : List ℕ) → letters ≡ l ∷ rest → is_joining l ≡ true → token_text letters ≡ l ∷ []
+pub token_text-joined : (letters : List ℕ) (l : ℕ) (rest : List ℕ) → letters ≡ l ∷ rest → is_joining l ≡ true → token_text letters ≡ l ∷ []
 token_text-joined letters l rest e hit = ap token_text e ∙ cond-true (is_joining l) _ _ hit
 
-abbrev token : List ℕ → ℕ → ℕ → Bool → Token
+abbrev pub token : List ℕ → ℕ → ℕ → Bool → Token
 token text start end after_blank = record { text = text; start = start; end = end; after_blank = after_blank }
 
-same_token : {text text' : List ℕ} {start start' end end' : ℕ} {b b' : Bool} → text ≡ text' → start ≡ start' → end ≡ end' → b ≡ b'
+pub same_token : {text text' : List ℕ} {start start' end end' : ℕ} {b b' : Bool} → text ≡ text' → start ≡ start' → end ≡ end' → b ≡ b'
     → token text start end b ≡ token text' start' end' b'
 same_token {text = text} {text' = text'} {start = start} {start' = start'} {end = end} {end' = end'} {b = b} {b' = b'} e f g h =
     ap (λ x. token x start end b) e ∙ ap (λ x. token text' x end b) f ∙ ap (λ x. token text' start' x b) g ∙ ap (λ x. token text' start' end' x) h
 
-or-true : (t : Bool) → (t || true) ≡ true
+pub or-true : (t : Bool) → (t || true) ≡ true
 or-true true = refl
 or-true false = refl
 
-or-false : (t : Bool) → (t || false) ≡ t
+pub or-false : (t : Bool) → (t || false) ≡ t
 or-false true = refl
 or-false false = refl
 
 -- quotes and dashes that are of one token have the letter of it
-family_joins : (a b : ℕ) (s t : SourceChar) → IsMarkByte a b s → same_family (Mark s) (Mark t) ≡ true → is_joining (letter b) ≡ true
-family_joins a b s t is h =
-    go (is_quote s.char) (is_quote t.char) (is_dash s.char) (is_dash t.char) (ap is_quote is.char ∙ is.quote) (ap is_dash is.char ∙ is.dash) h
+pub letters_join : (b : ℕ) (s t : SourceChar) → IsMarkLetter b s → same_family (Mark s) (Mark t) ≡ true → is_joining (letter b) ≡ true
+letters_join b s t is h = go (is_quote s.char) (is_quote t.char) (is_dash s.char) (is_dash t.char) is.quote is.dash h
   where
     go : (q q' d d' : Bool) → q ≡ (letter b == 0x27) → d ≡ (letter b == 0x2D) → ((q && q') || (d && d')) ≡ true → is_joining (letter b) ≡ true
     go true q' d d' e f g = ap (λ t. t || (letter b == 0x2D)) (sym e)
     go false q' true d' e f g = ap (λ t. (letter b == 0x27) || t) (sym f) ∙ or-true (letter b == 0x27)
     go false q' false d' e f g = absurd cc
+
+family_joins : (a b : ℕ) (s t : SourceChar) → IsMarkByte a b s → same_family (Mark s) (Mark t) ≡ true → is_joining (letter b) ≡ true
+family_joins a b s t is h = letters_join b s t (mark_fits a b (Mark s) is) h
 
 -- ---- the tokens
 
@@ -169,12 +199,12 @@ module _ (at : ℕ) (full : List ℕ) where
   abbrev Here : ℕ → ℕ → List ℕ → Type 0
   Here p b bytes = (at ≤ p) × (drop (p - at) full ≡ letter b ∷ map letter bytes)
 
-  rest_here : (p b : ℕ) (bytes : List ℕ) → at ≤ p → drop (p - at) full ≡ letter b ∷ map letter bytes → drop (suc p - at) full ≡ map letter bytes
+  pub rest_here : (p b : ℕ) (bytes : List ℕ) → at ≤ p → drop (p - at) full ≡ letter b ∷ map letter bytes → drop (suc p - at) full ≡ map letter bytes
   rest_here p b bytes low e =
       let place : suc p - at ≡ suc (p - at) = omega arith in
       ap (λ n. drop n full) place ∙ drop_next (p - at) full (letter b) (map letter bytes) e
 
-  first_letters : (p end b : ℕ) (bytes : List ℕ) → at ≤ p → p < end → drop (p - at) full ≡ letter b ∷ map letter bytes
+  pub first_letters : (p end b : ℕ) (bytes : List ℕ) → at ≤ p → p < end → drop (p - at) full ≡ letter b ∷ map letter bytes
       → slice_range full (p - at) (end - at) ≡ letter b ∷ slice_range full (suc p - at) (end - at)
   first_letters p end b bytes low lt e =
       let place : suc (p - at) ≡ suc p - at = omega arith in
@@ -192,7 +222,7 @@ module _ (at : ℕ) (full : List ℕ) where
   byte_text : (p b : ℕ) (s : SourceChar) → IsByte p b s → letter b ∷ [] ≡ encode_utf8_all (spell s.char ++ [])
   byte_text p b s is = sym (ap encode_utf8_all (append-nil (spell s.char)) ∙ is.text)
 
-  own_token : (p b : ℕ) (bytes : List ℕ) (x : Cell) (before : ℕ) (blank : Bool) (ts : List Token) → at ≤ p → drop (p - at) full ≡ letter b ∷ map letter bytes
+  pub own_token : (p b : ℕ) (bytes : List ℕ) (x : Cell) (before : ℕ) (blank : Bool) (ts : List Token) → at ≤ p → drop (p - at) full ≡ letter b ∷ map letter bytes
       → CellFits p b x → blank_cell x ≡ false
       → span_token blank at before full (record { start = p; end = suc p }) ∷ ts ≡ own (blank || nat_lt before p) x ts
   own_token p b bytes Blank before blank ts low e fits h = absurd cc
@@ -202,7 +232,7 @@ module _ (at : ℕ) (full : List ℕ) where
       ap (λ t. t ∷ ts) (same_token (single_text p b bytes low e ∙ byte_text p b s fits.byte) (sym fits.byte.start) (sym fits.byte.end) refl)
 
   -- no blank comes before the next byte
-  not_after : (p before : ℕ) (s : Span) (blank : Bool) → s.start ≡ suc p → (blank || nat_lt before p) ≡ ((blank || nat_lt before p) || nat_lt (suc p) s.start)
+  pub not_after : (p before : ℕ) (s : Span) (blank : Bool) → s.start ≡ suc p → (blank || nat_lt before p) ≡ ((blank || nat_lt before p) || nat_lt (suc p) s.start)
   not_after p before s blank start =
       sym (ap (λ n. (blank || nat_lt before p) || nat_lt (suc p) n) start
       ∙ ap (λ t. (blank || nat_lt before p) || t) (le-ltb (suc p) (suc p) (omega arith))
@@ -247,7 +277,7 @@ module _ (at : ℕ) (full : List ℕ) where
   on_no_blank Blank (Mark t) h = absurd cc
   on_no_blank Blank (Word t) h = absurd cc
 
-  on_next : (x : Cell) (cells : List Cell) → on x (next cells) ≡ true → (y : Cell) × (rest : List Cell) × (cells ≡ y ∷ rest) × (blank_cell y ≡ false)
+  pub on_next : (x : Cell) (cells : List Cell) → on x (next cells) ≡ true → (y : Cell) × (rest : List Cell) × (cells ≡ y ∷ rest) × (blank_cell y ≡ false)
   on_next x (Mark t ∷ cells) h = (Mark t, cells, refl, refl)
   on_next x (Word t ∷ cells) h = (Word t, cells, refl, refl)
   on_next Blank [] h = absurd cc

@@ -36,10 +36,10 @@ bounded_before low high [] h = tt
 bounded_before low high (s ∷ ss) h = (omega (arith, h.0), h.1, h.2, bounded_before low high ss h.3)
 
 bounded_with : (at high : ℕ) (b more : Bool) (ss : List Span) → suc at ≤ high → Bounded (suc at) high ss → Bounded at high (with_cell at b more ss)
-bounded_with at high true more ss room h = bounded_before at high ss h
-bounded_with at high false true [] room h = tt
-bounded_with at high false true (s ∷ ss) room h = (omega arith, omega (arith, h.0, h.1), h.2, bounded_before at high ss h.3)
-bounded_with at high false false ss room h = (omega arith, omega arith, room, bounded_before at high ss h)
+bounded_with at high true more ss bounded h = bounded_before at high ss h
+bounded_with at high false true [] bounded h = tt
+bounded_with at high false true (s ∷ ss) bounded h = (omega arith, omega (arith, h.0, h.1), h.2, bounded_before at high ss h.3)
+bounded_with at high false false ss bounded h = (omega arith, omega arith, bounded, bounded_before at high ss h)
 
 pub spans_bounded : (at : ℕ) (cells : List columns.Cell) → Bounded at (at + length cells) (spans at cells)
 spans_bounded at [] = tt

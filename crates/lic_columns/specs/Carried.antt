@@ -1,8 +1,9 @@
 -- What is carried from column to column where marks are joined.
 use Rattle.std.specs.Prelude.{◌≡◌, ℕ, ◌*◌, Bool, ◌&&◌, List}
-use Rattle.lic_columns.specs.Masks.{EndsBefore, IsColumn, flag_before, has_bit}
+use Rattle.lic_columns.specs.Masks.{EndsBefore, IsColumn, flag_before}
 use Rattle.lic_columns.specs.Marks.{kept_in, middles, same_as_next}
 use Rattle.lic_columns.specs.declared.marks.Carried.{Carried}
+use Rattle.lic_trim.specs.PieceLengths.{has_bit}
 
 -- what is carried to column k of these marks
 pub record AreCarried (separators : Bool) (bytes letters : List ℕ) (marks : List Bool) (k : ℕ) (c : Carried) : Type 0 where

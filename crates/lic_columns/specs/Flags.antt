@@ -1,7 +1,8 @@
 -- Lists of flags, 64 in a column.
 use Rattle.std.specs.Prelude.{ℕ, ◌/◌, ◌%◌, Bool, not, ◌&&◌, nat_le, nat_lt, List, map, length, slice_index}
 use Rattle.std.specs.List.{range_with_len}
-use Rattle.lic_columns.specs.Masks.{has_bit, flag_at}
+use Rattle.lic_columns.specs.Masks.{flag_at}
+use Rattle.lic_trim.specs.PieceLengths.{has_bit}
 
 -- the first n bits of a mask, as flags
 unfoldable pub bits_of : ℕ → ℕ → List Bool

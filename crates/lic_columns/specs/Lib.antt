@@ -11,3 +11,5 @@ pub mod Tokens
 pub mod SpanTokens
 pub mod Edges
 pub mod TokenPlaces
+pub mod Simple
+pub mod PlainLines

@@ -1,5 +1,5 @@
 -- Streaks of marks by their flags: separators go, quotes and dashes are joined.
-use Rattle.std.specs.Prelude.{ℕ, suc, Bool, not, ◌&&◌, ◌||◌, ◌==◌, if◌then◌else◌, List, map, length, slice_index}
+use Rattle.std.specs.Prelude.{◌≡◌, ℕ, suc, Bool, true, not, ◌&&◌, ◌||◌, ◌==◌, if◌then◌else◌, List, map, length, slice_index}
 use Rattle.std.specs.List.{range_with_len}
 use Rattle.lic_columns.specs.Masks.{flag_at, flag_before}
 
@@ -47,3 +47,9 @@ joined_by same letters marks = map (is_joined letters same marks) (range_with_le
 -- which marks are joined to the one before: quotes after quotes, and dashes after dashes
 abbrev pub joined_marks : List ℕ → List Bool → List Bool
 joined_marks letters marks = joined_by (same_as_next letters marks) letters marks
+
+-- each byte has a letter here, and marks side by side that are one same byte have one letter
+pub record HaveLetters (bytes letters : List ℕ) (marks : List Bool) : Type 0 where
+  pub long : length letters ≡ length bytes
+  pub alike : (k : ℕ) → flag_at marks (suc k) ≡ true → (slice_index bytes k == slice_index bytes (suc k)) ≡ true
+      → (slice_index letters k == slice_index letters (suc k)) ≡ true

@@ -1,10 +1,6 @@
 -- Masks: numbers that are read bit by bit.
-use Rattle.std.specs.Prelude.{◌≡◌, ℕ, zero, suc, ◌+◌, ◌*◌, ◌<◌, Bool, false, ◌==◌, List, slice_index_or}
-use Rattle.std.specs.Int.{bit_at}
-
--- whether bit k of the mask is set
-abbrev pub has_bit : ℕ → ℕ → Bool
-has_bit mask k = bit_at mask k == 1
+use Rattle.std.specs.Prelude.{◌≡◌, ℕ, zero, suc, ◌+◌, ◌*◌, ◌<◌, Bool, false, List, slice_index_or}
+use Rattle.lic_trim.specs.PieceLengths.{has_bit}
 
 -- whether flag k of a list is set: past its end none is
 abbrev pub flag_at : List Bool → ℕ → Bool

@@ -3,8 +3,9 @@ ghost use Rattle.std.specs.Prelude.{◌≡◌, ℕ, suc, ◌+◌, ◌-◌, ◌*�
 ghost use Rattle.std.specs.Char.{to_ascii_lowercase};
 ghost use Rattle.lic_columns.specs.Bytes.{is_word, is_mark, is_feed, letter};
 ghost use Rattle.lic_columns.specs.Classes.{class_by_low, class_by_high, class_of};
-ghost use Rattle.lic_columns.specs.Masks.{IsMask, has_bit};
+ghost use Rattle.lic_columns.specs.Masks.{IsMask};
 ghost use Rattle.lic_columns.specs.Marks.{is_joining};
+ghost use Rattle.lic_trim.specs.PieceLengths.{has_bit};
 
 use std::simd::prelude::*;
 

@@ -74,7 +74,7 @@ impl Columns {
         &self.mark
     }
 
-    /// Reads a text; what was held before is let go of, and the room for it is kept.
+    /// Reads a text; what was held before is let go of, and its memory is kept.
     ///
     /// # Errors
     /// Memory ran out. What it then holds is not said.
@@ -112,7 +112,7 @@ impl Columns {
         requires blocks { length self.old.letters % 64 ≡ 0 }
         requires some { 0 < count }
         requires count { count ≤ 64 }
-        requires room { length self.old.letters + count < 2 ^ 64 }
+        requires bounded { length self.old.letters + count < 2 ^ 64 }
         requires blank { (k : ℕ) → count ≤ k → k < 64 → slice_index bytes k ≡ 32 }
         ensures { IfOk result (λ _. self.new ≡ followed_by self.old (known_of (take count bytes))) }
     {

@@ -23,7 +23,7 @@ pub fn clear_edges(cut: LineCut, at: usize, end: usize, columns: &mut Columns)
 }
 
 /// Takes lead, item and tail of a line of ASCII away, which is from `at` on. Mostly they are white space, which counts as a blank
-/// already. The characters are room for those of the line, whatever they hold.
+/// already. The characters are a buffer for those of the line, whatever they hold.
 ///
 /// # Errors
 /// Memory ran out. What of the line is then cleared is not said.
@@ -52,7 +52,7 @@ fn clear_line(
     Ok(())
 }
 
-/// Takes lead, item and tail of each line of a text of ASCII away. The characters are room for those of a line, whatever they
+/// Takes lead, item and tail of each line of a text of ASCII away. The characters are a buffer for those of a line, whatever they
 /// hold.
 ///
 /// # Errors

@@ -1,7 +1,8 @@
 //! Lists of flags.
 ghost use Rattle.std.specs.Prelude.{◌≡◌, ℕ, suc, ◌+◌, ◌/◌, ◌*◌, ◌%◌, ◌^◌, ◌≤◌, ◌<◌, [], ◌++◌, length, IfOk};
-ghost use Rattle.lic_columns.specs.Masks.{has_bit, flag_at};
+ghost use Rattle.lic_columns.specs.Masks.{flag_at};
 ghost use Rattle.lic_columns.specs.Flags.{bits_of, cleared};
+ghost use Rattle.lic_trim.specs.PieceLengths.{has_bit};
 
 use crate::block::SIZE;
 use crate::mask::{moved_down, without};
@@ -69,7 +70,7 @@ impl Flags {
         requires some { 0 < count }
         requires count { count ≤ 64 }
         requires below { mask < 2 ^ count }
-        requires room { length self.old + count < 2 ^ 64 }
+        requires bounded { length self.old + count < 2 ^ 64 }
         ensures { IfOk result (λ _. self.new ≡ self.old ++ bits_of count mask) }
     {
         self.columns.push(mask)?;
@@ -110,7 +111,7 @@ impl Flags {
     #[inline]
     pub fn clear(&mut self, from: usize, to: usize)
         requires order { from ≤ to }
-        requires room { to ≤ length self.old }
+        requires bounded { to ≤ length self.old }
         ensures { self.new ≡ cleared from to self.old }
     {
         let mut at = from;

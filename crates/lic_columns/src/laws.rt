@@ -1,5 +1,6 @@
 //! Laws of what is known of bytes, each the contract of a function that does nothing.
-ghost use Rattle.std.specs.Prelude.{◌≡◌, ◌↔◌, ℕ, suc, ◌+◌, ◌≤◌, Bool, true, List, length, IsAscii};
+ghost use Rattle.std.specs.Prelude.{◌≡◌, ◌↔◌, ℕ, suc, ◌+◌, ◌≤◌, Bool, true, List, length, IsAscii, IsUtf8};
+ghost use Rattle.std.specs.Str.{chars};
 ghost use Rattle.lic_kind.specs.LineRules.{LineRules};
 ghost use Rattle.lic_trim.specs.Lines.{cut_of, whole_line};
 ghost use Rattle.lic_lines.specs.Cells.{cells_of, line_cells};
@@ -10,6 +11,7 @@ ghost use Rattle.lic_trim.specs.declared.cut.LineCut.{LineCut};
 ghost use Rattle.lic_columns.specs.Edges.{byte_lines, edges_blanked, lines_blanked};
 ghost use Rattle.lic_columns.specs.Known.{Known, IsText, known_of, blanked};
 ghost use Rattle.lic_columns.specs.Marks.{is_same_as_next, same_as_next, middles, is_in_separator};
+ghost use Rattle.lic_columns.specs.Simple.{AreSimple, TakeSpaces, all_in_place};
 ghost use Rattle.lic_columns.specs.SpanTokens.{span_tokens};
 ghost use Rattle.lic_columns.specs.Tokens.{text_spans};
 
@@ -36,6 +38,14 @@ pub fn spans_are_first_tokens()
         ≡ tokens_after rules after_blank (placed at text) }
 {}
 
+/// The same of a text of simple characters, of which those beyond ASCII are spelled in the place of their bytes.
+pub fn spans_of_simple_texts_are_first_tokens()
+    ensures { (rules : LineRules) (after_blank : Bool) (at : ℕ) (text : List ℕ) → IsUtf8 text → AreSimple (chars text)
+        → span_tokens after_blank at at (known_of (all_in_place (chars text))).letters
+        (text_spans rules.separators at text (known_of (all_in_place (chars text))))
+        ≡ tokens_after rules after_blank (placed at (chars text)) }
+{}
+
 /// What the line rules take from a line of ASCII may as well be blanks, byte by byte: the tokens of the spans are then the first
 /// tokens of the line.
 pub fn edges_are_blanks()
@@ -52,4 +62,12 @@ pub fn edges_of_lines_are_blanks()
         → span_tokens true at at (known_of text).letters
         (text_spans rules.separators at text (lines_blanked rules 0 (byte_lines text) (known_of text)))
         ≡ first_tokens (streaks_joined rules (cells_of rules (placed at text))) }
+{}
+
+/// The same of lines of simple characters of which nothing but white space is taken.
+pub fn spans_of_simple_lines_are_first_tokens()
+    ensures { (rules : LineRules) (at : ℕ) (text : List ℕ) → IsUtf8 text → AreSimple (chars text) → TakeSpaces rules (placed at (chars text))
+        → span_tokens true at at (known_of (all_in_place (chars text))).letters
+        (text_spans rules.separators at text (known_of (all_in_place (chars text))))
+        ≡ first_tokens (streaks_joined rules (cells_of rules (placed at (chars text)))) }
 {}

@@ -11,8 +11,10 @@ mod lines;
 mod marks;
 mod mask;
 mod places;
+mod plain;
 #[cfg(test)]
 mod tests;
 mod tokens;
+mod wide;
 
 pub use lines::Lines;

@@ -1,5 +1,5 @@
-//! The tokens of lines of ASCII.
-ghost use Rattle.std.specs.Prelude.{◌≡◌, ℕ, ◌+◌, ◌^◌, ◌<◌, ◌≤◌, [], true, length, map, slice_index, string_bytes, OnOk, IsAscii};
+//! The tokens of lines.
+ghost use Rattle.std.specs.Prelude.{◌≡◌, ℕ, ◌+◌, ◌^◌, ◌<◌, ◌≤◌, [], true, length, map, take, slice_index, string_bytes, IfOk, OnOk, IsAscii};
 ghost use Rattle.lic_kind.specs.LineRules.{rules_of};
 ghost use Rattle.lic_lines.specs.Cells.{cells_of};
 ghost use Rattle.lic_lines.specs.Streaks.{streaks_joined};
@@ -8,25 +8,30 @@ ghost use Rattle.lic_lines.specs.Tokens.{first_tokens};
 ghost use Rattle.lic_columns.specs.Bytes.{letter};
 ghost use Rattle.lic_columns.specs.Cells.{starts_of, ends_of};
 ghost use Rattle.lic_columns.specs.Known.{IsText};
+ghost use Rattle.lic_columns.specs.PlainLines.{ArePlainLines, HaveFirstTokens};
 ghost use Rattle.lic_columns.specs.SpanTokens.{span_tokens, spans_by};
 ghost use Rattle.lic_columns.specs.Tokens.{text_spans};
 
 use crate::columns::Columns;
 use crate::edges::clear_lines;
 use crate::places::Places;
+use crate::plain::spell_lines;
 use crate::tokens::list_tokens;
 use lic_lines::Rules;
 use lic_trim::SourceChar;
+use simdutf8::compat::from_utf8;
 use std::alloc::{AllocError, Global};
 use std::marker::Model;
-use std::str::from_utf8;
 
-/// The tokens of lines of ASCII, read 64 bytes at a time. What it holds from one text to the next is room alone.
+/// The tokens of lines of ASCII or of simple characters, read 64 bytes at a time. What it holds from one text to the next is buffers alone.
 #[derive(Drop)]
 pub struct Lines {
+    alloc: Global,
     columns: Columns,
     /// The characters of a line.
     characters: Vec<SourceChar>,
+    /// What the simple characters of lines are spelled by, in the place of their bytes.
+    spelled: Vec<u8>,
     letters: String,
     starts: Places,
     ends: Places,
@@ -69,8 +74,10 @@ impl Lines {
         ensures { result ≡ record { letters = []; starts = []; ends = [] } }
     {
         Lines {
+            alloc,
             columns: Columns::new(alloc),
             characters: Vec::new(alloc),
+            spelled: Vec::new(alloc),
             letters: String::new(alloc),
             starts: Places::new(alloc),
             ends: Places::new(alloc),
@@ -139,5 +146,38 @@ impl Lines {
         )?;
         put_letters(&mut self.letters, self.columns.letters())?;
         Ok(())
+    }
+
+    /// Reads the lines at the start of these bytes, which begin at this place, that are of simple characters and of which nothing but
+    /// white space is taken, as far as their edges show: their first tokens. The answer is how many bytes these lines have.
+    ///
+    /// # Errors
+    /// Memory ran out. What it then holds is not said.
+    pub fn read_front(&mut self, rules: &Rules, at: u32, bytes: &[u8]) -> Result<usize, AllocError>
+        requires fits { at + length bytes.now + 65 ≤ 2 ^ 32 }
+        ensures within { IfOk result (λ n. n ≤ length bytes.now) }
+        ensures lines { IfOk result (λ n. ArePlainLines (rules_of rules.now) (take n bytes.now)) }
+        ensures tokens { IfOk result (λ n. 0 < n → HaveFirstTokens (rules_of rules.now) at (take n bytes.now) self.new) }
+    {
+        let end = spell_lines(self.alloc, rules, bytes, &mut self.spelled)?;
+        if end == 0 {
+            return Ok(0);
+        }
+        let lines = &bytes[..end];
+        self.columns.read(&self.spelled)?;
+        list_tokens(
+            rules.separators(),
+            at,
+            lines,
+            &self.columns,
+            &mut self.starts,
+            &mut self.ends,
+        )?;
+        let Ok(letters) = from_utf8(self.columns.letters()) else {
+            return Ok(0);
+        };
+        self.letters.clear();
+        self.letters.push_str(letters)?;
+        Ok(end)
     }
 }

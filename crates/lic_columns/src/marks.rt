@@ -1,9 +1,9 @@
 //! Streaks of marks, column by column: separators go, quotes and dashes are joined.
-ghost use Rattle.std.specs.Prelude.{◌≡◌, ℕ, Bool, List, true, ◌+◌, ◌*◌, ◌^◌, ◌<◌, ◌≤◌, ◌&&◌, length, map, slice_index, if◌then◌else◌};
-ghost use Rattle.lic_columns.specs.Bytes.{letter};
+ghost use Rattle.std.specs.Prelude.{◌≡◌, ℕ, Bool, List, true, ◌+◌, ◌*◌, ◌^◌, ◌<◌, ◌≤◌, ◌&&◌, length, slice_index, if◌then◌else◌};
 ghost use Rattle.lic_columns.specs.Carried.{AreCarried};
-ghost use Rattle.lic_columns.specs.Masks.{EndsBefore, IsColumn, has_bit};
-ghost use Rattle.lic_columns.specs.Marks.{same_as_next, middles, is_joining, kept_by, kept_in, joined_marks};
+ghost use Rattle.lic_columns.specs.Masks.{EndsBefore, IsColumn};
+ghost use Rattle.lic_columns.specs.Marks.{HaveLetters, same_as_next, middles, is_joining, kept_by, kept_in, joined_marks};
+ghost use Rattle.lic_trim.specs.PieceLengths.{has_bit};
 
 use crate::block::{joining_places, same_places};
 use crate::flags::Flags;
@@ -21,7 +21,7 @@ impl Pairs {
     #[inline(always)]
     fn of_column(bytes: &[u8], letters: &[u8], marks: &Flags, k: usize) -> Pairs
         requires long { length bytes.now ≡ length marks.now }
-        requires letters { letters.now ≡ map letter bytes.now }
+        requires letters { HaveLetters bytes.now letters.now marks.now }
         requires more { k + 1 < 2 ^ 64 }
         ensures same { IsColumn result.same (same_as_next bytes.now marks.now) k }
         ensures alike { IsColumn result.alike (same_as_next letters.now marks.now) k }
@@ -97,7 +97,7 @@ impl Carried {
     /// What is carried to column 0.
     pub fn start(separators: bool, bytes: &[u8], letters: &[u8], marks: &Flags) -> Carried
         requires long { length bytes.now ≡ length marks.now }
-        requires letters { letters.now ≡ map letter bytes.now }
+        requires letters { HaveLetters bytes.now letters.now marks.now }
         ensures { AreCarried separators bytes.now letters.now marks.now 0 result }
     {
         let pairs = Pairs::of_column(bytes, letters, marks, 0);
@@ -120,7 +120,7 @@ impl Carried {
         k: usize,
     ) -> Kept
         requires long { length bytes.now ≡ length marks.now }
-        requires letters { letters.now ≡ map letter bytes.now }
+        requires letters { HaveLetters bytes.now letters.now marks.now }
         requires more { k + 2 < 2 ^ 64 }
         requires carried { AreCarried separators bytes.now letters.now marks.now k self.old }
         ensures kept { IsColumn result.kept (kept_in separators bytes.now marks.now) k }

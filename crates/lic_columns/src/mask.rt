@@ -1,8 +1,8 @@
 //! Masks of 64 bits.
 ghost use Rattle.std.specs.Prelude.{◌≡◌, ℕ, suc, ◌+◌, ◌++◌, ◌-◌, ◌^◌, ◌<◌, ◌≤◌, not, ◌&&◌, ◌∷◌, IfOk};
-ghost use Rattle.lic_columns.specs.Masks.{has_bit};
 ghost use Rattle.lic_columns.specs.Flags.{bits_of, is_within};
 ghost use Rattle.lic_columns.specs.Places.{places};
+ghost use Rattle.lic_trim.specs.PieceLengths.{has_bit};
 
 // How many bits a mask has.
 const BITS: usize = 64;

@@ -1,10 +1,10 @@
 //! Where tokens begin and end.
-ghost use Rattle.std.specs.Prelude.{◌≡◌, ℕ, Bool, List, ◌+◌, ◌*◌, ◌^◌, ◌<◌, ◌≤◌, length, map, OnOk};
-ghost use Rattle.lic_columns.specs.Bytes.{letter};
+ghost use Rattle.std.specs.Prelude.{◌≡◌, ℕ, Bool, List, ◌+◌, ◌*◌, ◌^◌, ◌<◌, ◌≤◌, length, OnOk};
 ghost use Rattle.lic_columns.specs.Masks.{IsColumn, EndsBefore};
 ghost use Rattle.lic_columns.specs.Cells.{AreCells, cells_of, firsts, lasts, starts_of, ends_of};
 ghost use Rattle.lic_columns.specs.Cells.{Blank};
 ghost use Rattle.lic_columns.specs.Known.{IsText};
+ghost use Rattle.lic_columns.specs.Marks.{HaveLetters};
 ghost use Rattle.lic_columns.specs.Tokens.{text_spans};
 
 use crate::block::SIZE;
@@ -53,7 +53,7 @@ pub fn list_tokens(
 ) -> Result<(), AllocError>
     requires fits { at + length bytes.now + 65 ≤ 2 ^ 32 }
     requires text { IsText (length bytes.now) columns.now }
-    requires letters { columns.now.letters ≡ map letter bytes.now }
+    requires letters { HaveLetters bytes.now columns.now.letters columns.now.mark }
     ensures starts { OnOk result (starts.new ≡ starts_of (text_spans separators at bytes.now columns.now)) }
     ensures ends { OnOk result (ends.new ≡ ends_of (text_spans separators at bytes.now columns.now)) }
 {

@@ -17,23 +17,6 @@ use Rattle.lic_command.specs.declared.faults.Stop.{Stop}
 use Rattle.lic_command.specs.declared.files.Work.{Work}
 use Rattle.lic_command.specs.declared.files.Written.{Written}
 
--- what the clauses of `write_lines` say of the writer
-pub has_written : {W : Type 0} (work : Work) (name : List ℕ) (taken : W → Option (List ℕ)) (old new : W) (a b : Option (List ℕ))
-    (r : Result Bool RunFault)
-    → IfOk r (λ some. (bytes lines : List ℕ) × IsAccepted a b bytes × AreLinesOf work name bytes lines
-    × Appends (taken old) (taken new) lines × (some ≡ nat_lt 0 (length lines)))
-    → ((fault : RunFault) → IsErrOf r fault → ((fault ≡ Write) ⊎ (fault ≡ Memory)) → (bytes : List ℕ) × IsAccepted a b bytes
-    × ((lines : List ℕ) → AreLinesOf work name bytes lines → BeginsWith (taken old) (taken new) lines))
-    → Keeps r old new → HasWritten work name (taken old) (taken new) r
-has_written work name taken old new a b (Ok some) report part keeps =
-    (report.0, report.1, report.2.2, report.3, report.4, report.5)
-has_written work name taken old new a b (Err (Text fault)) report part keeps = ap taken (keeps.1 fault refl)
-has_written work name taken old new a b (Err Read) report part keeps = ap taken (keeps.0 refl)
-has_written work name taken old new a b (Err Write) report part keeps =
-    let begun = part Write refl (inl refl) in (begun.0, begun.1.2, begun.2)
-has_written work name taken old new a b (Err Memory) report part keeps =
-    let begun = part Memory refl (inr refl) in (begun.0, begun.1.2, begun.2)
-
 module _ (a b u v : Option (List ℕ)) (lines_of : List ℕ → List ℕ) where
   -- the lines of all tokens of what was read, as lines of their own
   pub whole_lines : {E : Type 0} (r : Result Bool E)

@@ -11,7 +11,7 @@ ghost use Rattle.lic_command.specs.Reporting.{AreReported, IsAnswerReported, lin
 
 use crate::faults::Stop;
 use crate::progress::Progress;
-use lic_engine::{RunFault, run, run_tokens};
+use lic_engine::{Memory, RunFault, run, run_tokens};
 use lic_fields::Escaped;
 use lic_find::Ask;
 use lic_kind::Rules;
@@ -67,7 +67,7 @@ fn with_one_more(written: Written, answer: Result<bool, RunFault>) -> Written
 
 /// Writes the lines about one input, and says whether there was one.
 fn write_lines<R: Source, W: Sink>(
-    alloc: Global,
+    memory: &mut Memory,
     name: &str,
     input: &mut R,
     out: &mut W,
@@ -95,7 +95,7 @@ fn write_lines<R: Source, W: Sink>(
 {
     match work {
         Work::Scan(search) => run(
-            alloc,
+            memory,
             name,
             input,
             out,
@@ -104,14 +104,14 @@ fn write_lines<R: Source, W: Sink>(
             search.rules,
             search.ask,
         ),
-        Work::Tokens { words, rules } => run_tokens(alloc, name, input, out, words, rules),
+        Work::Tokens { words, rules } => run_tokens(memory, name, input, out, words, rules),
     }
 }
 
 /// Writes the lines about one file, or about standard input where the name is `-`.
 fn write_file<Rt: Files, R: Source, W: Sink>(
     rt: &Rt,
-    alloc: Global,
+    memory: &mut Memory,
     name: &str,
     input: &mut R,
     out: &mut W,
@@ -124,12 +124,12 @@ fn write_file<Rt: Files, R: Source, W: Sink>(
     ensures memory { IfErr result (λ stop. stop ≡ Stop.Memory) }
 {
     if name == "-" {
-        return Ok(write_lines(alloc, name, input, out, work));
+        return Ok(write_lines(memory, name, input, out, work));
     }
     match File::open(rt, name) {
         Ok(file) => {
             let mut source = Counted::new(file);
-            Ok(write_lines(alloc, name, &mut source, out, work))
+            Ok(write_lines(memory, name, &mut source, out, work))
         }
         Err(e) if wants_memory(&e) => Err(Stop::Memory),
         Err(_) => Ok(Err(RunFault::Read)),
@@ -195,11 +195,12 @@ fn write_each<Rt: Files, R: Source, W: Sink, E: Sink>(
         has_line: false,
         is_refused: false,
     };
+    let mut memory = Memory::new(alloc);
     let all = files.names.len();
     for done in 0..all {
         let name = files.names[done];
         files.progress.show(alloc, err, done, all);
-        let answer = write_file(rt, alloc, name, input, out, work)?;
+        let answer = write_file(rt, &mut memory, name, input, out, work)?;
         written = with_one_more(written, answer);
         report_refusal(alloc, name, files, err, answer)?;
     }

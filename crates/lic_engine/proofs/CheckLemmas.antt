@@ -58,11 +58,6 @@ module _ (set : List Known) (tokens : List TokenValue) (k last : ℕ) (d : Known
       (λ yes. is.0 (h.0 yes), λ described. h.1 (is.1 described))
   described_all (Err x) within e h = tt
 
--- no tokens are described
-pub none_described : (tokens : List TokenValue) (known : Known) → length tokens ≡ 0 → IsTrue false ↔ IsDescribed (words_of known) (all_letters tokens)
-none_described [] known e = (λ no. absurd (cc), λ described. absurd (described.0 refl))
-none_described (t ∷ ts) known e = absurd (omega arith)
-
 one_answer : (a b : Bool) → (a ≡ true → b ≡ true) → (b ≡ true → a ≡ true) → a ≡ b
 one_answer true b to from = sym (to refl)
 one_answer false true to from = from refl

@@ -1,15 +1,11 @@
 -- What is fed of an input as it is read.
-use Rattle.std.proofs.Common.{◌≡◌, ℕ, ◌≤◌, List, ◌++◌, length, Option, None, Some, Result, Err, sym, subst, arith}
+use Rattle.std.proofs.Common.{◌≡◌, ℕ, ◌≤◌, List, ◌++◌, length, Option, None, Some, Result, Err, arith}
 use Rattle.std.specs.Io.KnownBytes.{Consumes}
 use Rattle.std.proofs.KnownBytes.{Consumes-trans}
 use Rattle.lic_norm.specs.Refusal.{refusal_of}
 use Rattle.lic_norm.specs.declared.fault.TextFault.{TextFault}
 use Rattle.lic_norm.specs.declared.fault.TextFault.TheVariants.{TooLong, Memory}
 use Rattle.lic_engine.proofs.Refusals.{accepted_short, not_too_long, refused_text}
-
--- one more piece was read, and fed
-pub piece_read : (a b c : Option (List ℕ)) (fed piece fed' : List ℕ) → Consumes a b fed → Consumes b c piece → fed' ≡ fed ++ piece → Consumes a c fed'
-piece_read a b c fed piece fed' p q e = subst (Consumes a c) (sym e) (Consumes-trans a b c fed piece p q)
 
 -- a piece was refused, and so is what was read, however it continues
 pub piece_refused : (a b c : Option (List ℕ)) (fed piece : List ℕ) (fault : TextFault) → Consumes a b fed

@@ -11,6 +11,7 @@ ghost use Rattle.lic_engine.specs.Inputs.{IsAccepted, IsRefused, IsUnrefused};
 
 use crate::fault::RunFault;
 use crate::input::read_text;
+use crate::memory::Memory;
 use crate::outer::report_outer;
 use lic_fields::LineFront;
 use lic_find::Ask;
@@ -86,7 +87,7 @@ fn report<W: Sink>(
 /// that cannot be read, gives no line; after a write that failed, and where memory ran out, what was written is a
 /// beginning of the report. A failed call is not tried again.
 pub fn run<R: Source, W: Sink>(
-    alloc: Global,
+    memory: &mut Memory,
     name: &str,
     input: &mut R,
     out: &mut W,
@@ -121,8 +122,10 @@ pub fn run<R: Source, W: Sink>(
     ensures writes { CountsWrites result (W.failed out.old) (W.failed out.new) }
     ensures most { ReadsUpTo (R.left input.old) (R.left input.new) 67108865 }
 {
-    let text = read_text(alloc, input, words, rules)?;
-    report(alloc, name, &text, out, set, ask)
+    let text = read_text(memory, input, words, rules)?;
+    let some = report(memory.alloc(), name, &text, out, set, ask);
+    memory.keep(text);
+    some
 }
 
 /// Writes the lines of a text's tokens, and says whether there was one.
@@ -159,7 +162,7 @@ fn report_tokens<W: Sink>(
 /// that cannot be read, gives no line; after a write that failed, and where memory ran out, what was written is a
 /// beginning of the lines. A failed call is not tried again.
 pub fn run_tokens<R: Source, W: Sink>(
-    alloc: Global,
+    memory: &mut Memory,
     name: &str,
     input: &mut R,
     out: &mut W,
@@ -192,6 +195,8 @@ pub fn run_tokens<R: Source, W: Sink>(
     ensures writes { CountsWrites result (W.failed out.old) (W.failed out.new) }
     ensures most { ReadsUpTo (R.left input.old) (R.left input.new) 67108865 }
 {
-    let text = read_text(alloc, input, words, rules)?;
-    report_tokens(alloc, name, &text, out)
+    let text = read_text(memory, input, words, rules)?;
+    let some = report_tokens(memory.alloc(), name, &text, out);
+    memory.keep(text);
+    some
 }

@@ -9,10 +9,10 @@ ghost use Rattle.lic_engine.specs.Failures.{CountsReads, IsOfReading};
 ghost use Rattle.lic_engine.specs.Inputs.{IsAccepted, IsRefused, IsUnrefused};
 
 use crate::fault::RunFault;
+use crate::memory::Memory;
 use lic_kind::Rules;
 use lic_norm::{Feeder, Text, TextFault, Words};
 use lic_stream::Source;
-use std::alloc::Global;
 
 /// The most bytes that are read of an input: one more than an input may have.
 const MAX_READ: usize = 67_108_865;
@@ -59,7 +59,7 @@ fn feed_all<R: Source>(input: &mut R, feeder: &mut Feeder<'_>) -> Result<(), Run
 
 /// Reads an input to its end, but no more than one byte more than an input may have, and makes tokens of it as it comes.
 pub fn read_text<R: Source>(
-    alloc: Global,
+    memory: &mut Memory,
     input: &mut R,
     words: &Words,
     rules: &Rules,
@@ -76,7 +76,7 @@ pub fn read_text<R: Source>(
     ensures faults { IsOfReading result }
     ensures most { ReadsUpTo (R.left input.old) (R.left input.new) 67108865 }
 {
-    let mut feeder = Feeder::new(alloc, words, rules);
+    let mut feeder = memory.feeder(words, rules);
     feed_all(input, &mut feeder)?;
     match feeder.finish() {
         Ok(text) => Ok(text),

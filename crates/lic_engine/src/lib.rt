@@ -5,8 +5,10 @@ mod checking;
 mod engine;
 mod fault;
 mod input;
+mod memory;
 mod outer;
 
 pub use checking::check;
 pub use engine::{run, run_tokens};
 pub use fault::RunFault;
+pub use memory::Memory;

@@ -1,6 +1,6 @@
 //! Calls of the engine of whose reads one fails, or whose writer has room for a beginning of what is written.
 
-use lic_engine::{RunFault, check, run, run_tokens};
+use lic_engine::{Memory, RunFault, check, run, run_tokens};
 use lic_find::Ask;
 use lic_kind::Rules;
 use lic_markup::read_template;
@@ -121,9 +121,19 @@ fn outcome_of(
     let set = set_of(alloc, case.templates, &words, &rules)?;
     let mut input = Pieces::failing(case.input, fails_at);
     let mut out = Awaited::of(room);
+    let mut memory = Memory::new(alloc);
     let answer = match &case.call {
-        Call::Run(ask) => run(alloc, "-", &mut input, &mut out, &set, &words, &rules, ask),
-        Call::Tokens => run_tokens(alloc, "-", &mut input, &mut out, &words, &rules),
+        Call::Run(ask) => run(
+            &mut memory,
+            "-",
+            &mut input,
+            &mut out,
+            &set,
+            &words,
+            &rules,
+            ask,
+        ),
+        Call::Tokens => run_tokens(&mut memory, "-", &mut input, &mut out, &words, &rules),
         Call::Check => check(alloc, &set, &words, &mut out, &rules),
     };
     Ok((answer, out.is_whole(), out.failures()))

@@ -59,12 +59,12 @@ range_by x h y after e false false hyphen ne order begins is = not_failed (recor
 member_by : (x h y : Located) (after : List Located) (e : EreFault) (t : Bool) → (h.1 == dash && not (y.1 == close_bracket)) ≡ t
     → cond t (map_ok (λ m. (m, 2)) (range_at x y after)) (map_ok (λ m. (m, 0)) (single_at x (h ∷ y ∷ after))) ≡ failed {A = Member × ℕ} e
     → IsFaultyMember (x ∷ h ∷ y ∷ after) e
-member_by x h y after e true goes_on is =
-    let both = and_split (h.1 == dash) (y.1 == close_bracket) goes_on in
+member_by x h y after e true continues is =
+    let both = and_split (h.1 == dash) (y.1 == close_bracket) continues in
     range_by x h y after e (nat_lt y.1 x.1) (begins_extension y.1 after) (eqb-true _ _ both.0) (is_not_this y.1 close_bracket both.1) refl refl
     (map_ok-failed (λ m. (m, 2)) (range_at x y after) e is)
-member_by x h y after e false goes_on is =
-    single_by x (h ∷ y ∷ after) e (begins_extension x.1 (h ∷ y ∷ after)) refl goes_on (map_ok-failed (λ m. (m, 0)) (single_at x (h ∷ y ∷ after)) e is)
+member_by x h y after e false continues is =
+    single_by x (h ∷ y ∷ after) e (begins_extension x.1 (h ∷ y ∷ after)) refl continues (map_ok-failed (λ m. (m, 0)) (single_at x (h ∷ y ∷ after)) e is)
 
 member_fault : (x : Located) (after : List Located) (e : EreFault) → member_at x after ≡ Err e → IsFaultyMember (x ∷ after) e
 unfolding member_at

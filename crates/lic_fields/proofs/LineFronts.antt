@@ -149,3 +149,9 @@ ends_within same bytes first_end first second within large written =
     let one : length (field a 0x09) ≡ length a + 1 = length-append a (0x09 ∷ []) in
     let two : length (field b 0x09) ≡ length b + 1 = length-append b (0x09 ∷ []) in
     (omega (arith, digits, ends), omega (arith, head, ends, whole, one, two))
+
+-- how long a line is to which a front was added
+pub added_length : (line : List ℕ) (n : ℕ) (bytes held after : List ℕ) → bytes ≡ held → after ≡ line ++ take n bytes
+    → length after ≡ length line + length (take n held)
+added_length line n bytes held after same is =
+    ap length is ∙ (length-append line (take n bytes) ∙ ap (λ b. length line + length (take n b)) same)

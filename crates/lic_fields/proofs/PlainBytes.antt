@@ -23,6 +23,10 @@ plain-stay (b ∷ bytes) plain =
 pub plain-front : (n : ℕ) (bytes : List ℕ) → ArePlain bytes → escaped (take n bytes) ≡ take n bytes
 plain-front n bytes plain = plain-stay (take n bytes) (All-take (λ b. escaped_byte b ≡ b ∷ []) n bytes plain)
 
+-- what is left of a block that was added, once the end is let go of
+pub block_cut : (old bytes : List ℕ) (n wide : ℕ) → n ≤ wide → take (length old + n) (old ++ take wide bytes) ≡ old ++ take n bytes
+block_cut old bytes n wide short = take-append-add old (take wide bytes) n ∙ ap (λ l. old ++ l) (take-take n wide bytes short)
+
 -- those at the front of so many as are copied together, of which the others are let go of
 module _ (old bytes : List ℕ) (n wide : ℕ) (short : n ≤ wide) (plain : ArePlain (take wide bytes)) where
   front-is : escaped (take n bytes) ≡ take n bytes

@@ -35,8 +35,8 @@ outside_itself t h = (IsStrictlyWithin-test t t h).another refl refl
 pub outside_through : (s t u : Triple) → is_outside s t ≡ true → is_outside t u ≡ true → is_outside s u ≡ true
 outside_through s t u h k = test-IsStrictlyWithin u s (Outside-trans s t u (IsStrictlyWithin-test t s h) (IsStrictlyWithin-test u t k))
 
-Outside-behind : (s t : Triple) → IsBefore s t → IsStrictlyWithin s t → ⊥
-Outside-behind s t before h =
+Outside-past : (s t : Triple) → IsBefore s t → IsStrictlyWithin s t → ⊥
+Outside-past s t before h =
     let last : s.first ≡ t.first → t.last ≤ s.last = before.last in
     h.another (omega arith) (omega arith)
 
@@ -58,7 +58,7 @@ pub Sweeps-outermost : Sweeps IsBefore is_outside is_under
 Sweeps-outermost = record {
   itself = outside_itself;
   through = outside_through;
-  behind = λ x y before h. Outside-behind x y before (IsStrictlyWithin-test x y h);
+  past = λ x y before h. Outside-past x y before (IsStrictlyWithin-test x y h);
   dropped = λ x y before h. inr (test-IsStrictlyWithin y x (Outside-under x y before h));
   kept = λ x y z before after stays h. test-IsStrictlyWithin z y (Outside-kept x y z before after stays (IsStrictlyWithin-test z x h));
   next = λ x y before stays h. Outside-next x y stays (IsStrictlyWithin-test y x h);

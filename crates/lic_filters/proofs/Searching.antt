@@ -45,11 +45,11 @@ search-Contains sorted t (Err i) order low parts =
     let itself : triple_cmp t t ≡ Equal = tied_itself triple_cmp-total t in (
       λ e. absurd (false≢true e),
       λ (k, known, is).
-          let behind : i ≤ k → ⊥ = λ after. let other : Greater ≡ Equal =
+          let past : i ≤ k → ⊥ = λ after. let other : Greater ≡ Equal =
           sym (subst (λ s. triple_cmp s t ≡ Greater) is (split.1 k t after known)) ∙ itself in cc in
           by_ranked (k < i) (k ≡ i) (i < k) (nat_cmp k i) (ranked k i (nat_cmp k i) refl)
           (λ _ before. let other : Less ≡ Equal = sym (subst (λ s. triple_cmp s t ≡ Less) is (split.0 k t (omega arith) before)) ∙ itself in absurd (cc))
-          (λ _ same. absurd (behind (omega arith))) (λ _ after. absurd (behind (omega arith))),
+          (λ _ same. absurd (past (omega arith))) (λ _ after. absurd (past (omega arith))),
     )
 
 -- whether a triple is one of these, by comparing

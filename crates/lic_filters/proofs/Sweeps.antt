@@ -20,7 +20,7 @@ module _ {X : Type 0} (Ahead : X → X → Type 0) (beats drops : X → X → Bo
   pub record Sweeps : Type 0 where
     pub itself : (x : X) → beats x x ≡ true → ⊥
     pub through : (x y z : X) → beats x y ≡ true → beats y z ≡ true → beats x z ≡ true
-    pub behind : (x y : X) → Ahead x y → beats y x ≡ true → ⊥
+    pub past : (x y : X) → Ahead x y → beats y x ≡ true → ⊥
     pub dropped : (x y : X) → Ahead x y → drops y x ≡ true → (x ≡ y) ⊎ (beats x y ≡ true)
     pub kept : (x y z : X) → Ahead x y → Ahead y z → drops y x ≡ false → beats x z ≡ true → beats y z ≡ true
     pub next : (x y : X) → Ahead x y → drops y x ≡ false → beats x y ≡ true → ⊥
@@ -46,19 +46,19 @@ module _ {X : Type 0} (Ahead : X → X → Type 0) (beats drops : X → X → Bo
       ⊎_elim (λ e. Contains-here k (x ∷ xs) t e) (λ later. Contains-tail k (x ∷ xs) t (Contains-tail x xs t later)) (Contains-cons_cases k xs t free.0),
       λ s h beaten. ⊎_elim
           (λ (e : k ≡ s). free.1 s (Contains-here k xs s e) beaten)
-          (λ behind. ⊎_elim
+          (λ past. ⊎_elim
           (λ (e : x ≡ s).
           let second : beats x t ≡ true = subst (λ y. beats y t ≡ true) (sym e) beaten in
           free.1 k (Contains-head k xs)
           (⊎_elim (λ (f : k ≡ x). subst (λ y. beats y t ≡ true) (sym f) second) (λ first. sweep.through k x t first second) (sweep.dropped k x ahead goes)))
-          (λ later. free.1 s (Contains-tail k xs s later) beaten) (Contains-cons_cases x xs s behind)) (Contains-cons_cases k (x ∷ xs) s h),
+          (λ later. free.1 s (Contains-tail k xs s later) beaten) (Contains-cons_cases x xs s past)) (Contains-cons_cases k (x ∷ xs) s h),
     )
 
     -- the first one is kept, since none after it beats it
     Unbeaten-first : (k : X) (xs : List X) → Ranked (k ∷ xs) → Unbeaten (k ∷ xs) k
     Unbeaten-first k xs ranked = (
       Contains-head k xs,
-      λ s h beaten. ⊎_elim (λ (e : k ≡ s). sweep.itself k (subst (λ y. beats y k ≡ true) (sym e) beaten)) (λ later. sweep.behind k s (ranked.0 s later) beaten)
+      λ s h beaten. ⊎_elim (λ (e : k ≡ s). sweep.itself k (subst (λ y. beats y k ≡ true) (sym e) beaten)) (λ later. sweep.past k s (ranked.0 s later) beaten)
           (Contains-cons_cases k xs s h),
     )
 
@@ -82,11 +82,11 @@ module _ {X : Type 0} (Ahead : X → X → Type 0) (beats drops : X → X → Bo
     Unbeaten-left : (k x : X) (xs : List X) (t : X) → Ahead k x → drops x k ≡ true → Unbeaten (k ∷ x ∷ xs) t → Unbeaten (k ∷ xs) t
     Unbeaten-left k x xs t ahead goes free = (
       ⊎_elim (λ e. Contains-here k xs t e)
-          (λ behind. ⊎_elim
+          (λ past. ⊎_elim
           (λ (e : x ≡ t).
           ⊎_elim (λ (f : k ≡ x). Contains-here k xs t (f ∙ e))
           (λ first. absurd (free.1 k (Contains-head k (x ∷ xs)) (subst (λ y. beats k y ≡ true) e first))) (sweep.dropped k x ahead goes))
-          (λ later. Contains-tail k xs t later) (Contains-cons_cases x xs t behind)) (Contains-cons_cases k (x ∷ xs) t free.0),
+          (λ later. Contains-tail k xs t later) (Contains-cons_cases x xs t past)) (Contains-cons_cases k (x ∷ xs) t free.0),
       λ s h. ⊎_elim (λ e. free.1 s (Contains-here k (x ∷ xs) s e)) (λ later. free.1 s (Contains-tail k (x ∷ xs) s (Contains-tail x xs s later)))
           (Contains-cons_cases k xs s h),
     )

@@ -24,8 +24,8 @@ inside_itself t h = (IsInside-test t t h).within.another refl refl
 pub inside_through : (s t u : Triple) → is_inside s t ≡ true → is_inside t u ≡ true → is_inside s u ≡ true
 inside_through s t u h k = test-IsInside s u (IsInside-trans s t u (IsInside-test s t h) (IsInside-test t u k))
 
-IsInside-behind : (s t : Triple) → IsAhead s t → IsInside t s → ⊥
-IsInside-behind s t ahead h =
+IsInside-past : (s t : Triple) → IsAhead s t → IsInside t s → ⊥
+IsInside-past s t ahead h =
     let first : t.first ≤ s.first = ahead.first (omega arith) in
     let last : s.first ≡ t.first → s.last ≤ t.last = ahead.last (omega arith) in
     h.within.another (omega arith) (omega arith)
@@ -67,7 +67,7 @@ pub Sweeps-tight : Sweeps IsAhead is_inside is_over
 Sweeps-tight = record {
   itself = inside_itself;
   through = inside_through;
-  behind = λ x y ahead h. IsInside-behind x y ahead (IsInside-test y x h);
+  past = λ x y ahead h. IsInside-past x y ahead (IsInside-test y x h);
   dropped = IsInside-over;
   kept = λ x y z before after stays h. test-IsInside y z (IsInside-kept x y z before after stays (IsInside-test x z h));
   next = λ x y ahead stays h. IsInside-next x y stays (IsInside-test x y h);

@@ -7,8 +7,8 @@ use Rattle.lic_set.specs.Sets.{Known}
 use Rattle.lic_find.specs.Bounds.{letters_of, begins_one, firsts_from, longest_end, letters_of_longest}
 use Rattle.lic_find.specs.Among.{HaveAllMatches}
 use Rattle.lic_find.specs.Firsts.{NotedFirst, IsFirstFrom}
-use Rattle.lic_find.specs.Listing.{triple_at, matches_of, matches_after, is_after}
-use Rattle.lic_set.specs.Matches.{AreMatches, IsMatch}
+use Rattle.lic_find.specs.Listing.{matches_of, matches_after, is_after}
+use Rattle.lic_set.specs.Matches.{AreMatches, IsMatch, triple_at}
 use Rattle.lic_set.specs.declared.triple.Triple.{Triple}
 use Rattle.lic_find.proofs.AmongLemmas.{either_test}
 use Rattle.lic_find.proofs.LetterLemmas.{letters_of-longer}

@@ -11,8 +11,7 @@ use Rattle.lic_auto.specs.Backs.{IsLive}
 use Rattle.lic_set.specs.Sets.{Known, words_of}
 use Rattle.lic_find.specs.Among.{IsMatchAmong}
 use Rattle.lic_find.specs.Firsts.{NotedFirst, noted_at, noted_with, IsFirstFrom, AreFirstsFrom, NoneBeginFrom}
-use Rattle.lic_find.specs.Listing.{triple_at}
-use Rattle.lic_set.specs.Matches.{IsMatch, all_letters}
+use Rattle.lic_set.specs.Matches.{IsMatch, all_letters, triple_at}
 use Rattle.lic_find.specs.Starts.{few_of}
 use Rattle.lic_find.specs.Scans.{letters_up_to}
 use Rattle.lic_set.specs.declared.triple.Triple.{Triple}
@@ -95,8 +94,8 @@ module _ (set : List Known) (tokens : List TokenValue) where
     -- a token with which no match begins is passed by
     pub AreFirstsFrom-pass : (first : ℕ) (noted : List NotedFirst) → ((t : Triple) → IsMatchAmong set tokens kept t → t.first ≡ first → ⊥) →
         AreFirstsFrom set tokens kept (first + 1) noted → AreFirstsFrom set tokens kept first noted
-    AreFirstsFrom-pass first [] none behind = λ t m late. let other : t.first ≡ first → ⊥ = none t m in behind t m (omega arith)
-    AreFirstsFrom-pass first (next ∷ more) none (is, behind) = (
+    AreFirstsFrom-pass first [] none past = λ t m late. let other : t.first ≡ first → ⊥ = none t m in past t m (omega arith)
+    AreFirstsFrom-pass first (next ∷ more) none (is, past) = (
       record {
         low = let low : first + 1 ≤ next.first = is.low in omega arith;
         begins = is.begins;
@@ -104,7 +103,7 @@ module _ (set : List Known) (tokens : List TokenValue) where
         all = is.all;
         within = is.within;
       },
-      behind,
+      past,
     )
 
     module _ (first : ℕ) (inside : first < length tokens) (live : List ℕ)

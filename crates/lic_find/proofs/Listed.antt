@@ -11,8 +11,8 @@ use Rattle.lic_words.specs.Expressions.{Expression}
 use Rattle.lic_words.specs.Describing.{IsDescribed}
 use Rattle.lic_marks.specs.Deciding.{is_described}
 use Rattle.lic_set.specs.Sets.{Known, words_of}
-use Rattle.lic_find.specs.Listing.{triple_at, numbers_below, all_triples, describes, is_matching, precedes, is_after, matches_after}
-use Rattle.lic_set.specs.Matches.{Precedes, IsAfter, IsMatch, AreMatches, letters_between}
+use Rattle.lic_find.specs.Listing.{numbers_below, all_triples, describes, is_matching, is_after, matches_after}
+use Rattle.lic_set.specs.Matches.{Precedes, IsAfter, IsMatch, AreMatches, letters_between, triple_at, precedes}
 use Rattle.lic_set.specs.declared.triple.Triple.{Triple}
 use Rattle.lic_find.proofs.Collecting.{Collects, Collects-one, Collects-same, Collects-rows, Collects-filter}
 use Rattle.lic_find.proofs.Triples.{same_parts}

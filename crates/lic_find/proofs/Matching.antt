@@ -6,8 +6,8 @@ use Rattle.std.specs.List.{Contains}
 use Rattle.lic_norm.specs.Tokens.{TokenValue}
 use Rattle.lic_set.specs.Sets.{Known}
 use Rattle.lic_find.specs.Among.{IsMatchAmong}
-use Rattle.lic_find.specs.Listing.{triple_at, matches_after, matches_among}
-use Rattle.lic_set.specs.Matches.{AreMatches, IsAfter, IsMatch, Precedes}
+use Rattle.lic_find.specs.Listing.{matches_after, matches_among}
+use Rattle.lic_set.specs.Matches.{AreMatches, IsAfter, IsMatch, Precedes, triple_at}
 use Rattle.lic_find.specs.Scans.{IsNext}
 use Rattle.lic_set.specs.declared.triple.Triple.{Triple}
 use Rattle.lic_find.proofs.AmongLemmas.{AreMatchesAmong-listed, Collects-among, Collects-matches}

@@ -14,8 +14,7 @@ use Rattle.lic_auto.specs.Runs.{RunHasTakenAmong, numbers_of, set_of}
 use Rattle.lic_auto.specs.declared.run.Run.{Run}
 use Rattle.lic_find.specs.Among.{IsMatchAmong}
 use Rattle.lic_find.specs.Firsts.{NotedFirst, AreFirstsFrom, NoneBeginFrom, noted_with}
-use Rattle.lic_find.specs.Listing.{triple_at}
-use Rattle.lic_set.specs.Matches.{IsMatch, IsAfter, letters_between}
+use Rattle.lic_set.specs.Matches.{IsMatch, IsAfter, letters_between, triple_at}
 use Rattle.lic_find.specs.Scans.{letters_up_to, AllEndBy, HasCome, IsNext, NoneBegins, NoneHasRange, BeginsAt}
 use Rattle.lic_set.specs.declared.triple.Triple.{Triple}
 use Rattle.lic_find.proofs.Triples.{same_parts}
@@ -48,7 +47,7 @@ module _ (set : List Known) (tokens : List TokenValue) where
       (high : from < length tokens → begin ≤ from) (run : Run) (templates : set_of run ≡ set) where
     pub HasCome-begin : (noted : NotedFirst) (more : List NotedFirst) → AreFirstsFrom set tokens (numbers_of run) from (noted ∷ more) →
         RunHasTakenAmong run (noted_with (numbers_of run) noted.numbers) [] → HasCome set tokens place run more noted.first noted.first
-    HasCome-begin noted more (is, behind) taken =
+    HasCome-begin noted more (is, past) taken =
         let (last, template, m) = is.begins in
         let within : noted.first < length tokens = first_within (triple_at noted.first last template) m.0 in
         let from_on : from ≤ noted.first = is.low in
@@ -65,7 +64,7 @@ module _ (set : List Known) (tokens : List TokenValue) where
               let order : t.first ≤ t.last = n.0.order in
               (is.passed t n (omega arith), λ same. omega arith);
           ahead = λ t n later. begins_after place begin t begins (omega arith);
-          firsts = behind;
+          firsts = past;
         }
 
     -- where no match begins
@@ -154,13 +153,13 @@ module _ (set : List Known) (tokens : List TokenValue) where
         none t m after here (omega arith)
 
     -- where no first token is left, no match is
-    pub none_behind : NoneBegins set tokens (numbers_of run) place first → noted ≡ [] → (t : Triple) → IsMatchAmong set tokens (numbers_of run) t
+    pub none_after : NoneBegins set tokens (numbers_of run) place first → noted ≡ [] → (t : Triple) → IsMatchAmong set tokens (numbers_of run) t
         → IsAfter place t → ⊥
-    none_behind none empty t m after =
+    none_after none empty t m after =
         let low : first ≤ t.first = (come.reached t m after).0 in
         let other : t.first ≡ first → ⊥ = none t m after in
-        let behind : NoneBeginFrom set tokens (numbers_of run) (first + 1) = subst (AreFirstsFrom set tokens (numbers_of run) (first + 1)) empty come.firsts in
-        behind t m (omega arith)
+        let past : NoneBeginFrom set tokens (numbers_of run) (first + 1) = subst (AreFirstsFrom set tokens (numbers_of run) (first + 1)) empty come.firsts in
+        past t m (omega arith)
 
     module _ (next : NotedFirst) (more : List NotedFirst) (is : noted ≡ next ∷ more) where
       pub next_first : AreFirstsFrom set tokens (numbers_of run) (first + 1) (next ∷ more)
@@ -170,7 +169,7 @@ module _ (set : List Known) (tokens : List TokenValue) where
       pub HasCome-next_first : (new : Run) → NoneBegins set tokens (numbers_of run) place first → set_of new ≡ set_of run → numbers_of new ≡ numbers_of run →
           RunHasTakenAmong new (noted_with (numbers_of run) next.numbers) [] → HasCome set tokens place new more next.first next.first
       HasCome-next_first new none same alike taken =
-          let (one, behind) = next_first in
+          let (one, past) = next_first in
           let (last, template, m) = one.begins in
           let within : next.first < length tokens = first_within (triple_at next.first last template) m.0 in
           let later : first + 1 ≤ next.first = one.low in
@@ -188,7 +187,7 @@ module _ (set : List Known) (tokens : List TokenValue) where
                 let order : t.first ≤ t.last = m.0.order in
                 (one.passed t m (omega arith), λ here. omega arith);
             ahead = λ t n beyond. come.ahead t (match_of_run new alike t n) (omega arith);
-            firsts = subst (λ ns. AreFirstsFrom set tokens ns (next.first + 1) more) (sym alike) behind;
+            firsts = subst (λ ns. AreFirstsFrom set tokens ns (next.first + 1) more) (sym alike) past;
           }
 
       -- some match after the place begins with it

@@ -3,8 +3,8 @@ use Rattle.std.specs.Prelude.{◌≡◌, ℕ, ◌+◌, ◌≤◌, List, [], ◌�
 use Rattle.lic_norm.specs.Tokens.{TokenValue}
 use Rattle.lic_set.specs.Sets.{Known}
 use Rattle.lic_find.specs.Among.{IsMatchAmong}
-use Rattle.lic_find.specs.Listing.{triple_at}
 use Rattle.lic_set.specs.declared.triple.Triple.{Triple}
+use Rattle.lic_set.specs.Matches.{triple_at}
 
 -- a first token that was noted, with numbers of templates
 pub record NotedFirst : Type 0 where

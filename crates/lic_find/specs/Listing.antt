@@ -4,11 +4,8 @@ use Rattle.std.specs.List.{slice_get, flat_map, list_any, range_with_len}
 use Rattle.lic_norm.specs.Tokens.{TokenValue}
 use Rattle.lic_marks.specs.Deciding.{is_described}
 use Rattle.lic_set.specs.Sets.{Known, words_of}
-use Rattle.lic_set.specs.Matches.{letters_between}
+use Rattle.lic_set.specs.Matches.{precedes, triple_at, letters_between}
 use Rattle.lic_set.specs.declared.triple.Triple.{Triple}
-
-abbrev pub triple_at : ℕ → ℕ → ℕ → Triple
-triple_at first last template = record { first = first; last = last; template = template }
 
 -- the numbers below a bound
 abbrev pub numbers_below : ℕ → List ℕ
@@ -33,12 +30,6 @@ is_matching set tokens t = nat_le t.first t.last
 -- all matches in a text, in order
 abbrev pub matches_of : List Known → List TokenValue → List Triple
 matches_of set tokens = filter (is_matching set tokens) (all_triples (length tokens) (length set))
-
--- whether the first triple comes before the second
-abbrev pub precedes : Triple → Triple → Bool
-precedes s t =
-    nat_lt s.first t.first || (s.first == t.first
-    && (nat_lt s.last t.last || (s.last == t.last && nat_lt s.template t.template)))
 
 -- whether a triple comes after a place, if there is one
 abbrev pub is_after : Option Triple → Triple → Bool

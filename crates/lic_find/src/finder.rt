@@ -9,8 +9,7 @@ ghost use Rattle.lic_find.specs.Among.{AreMatchesAmong, HaveAllMatches};
 ghost use Rattle.lic_find.specs.Bounds.{letters_of, scan_steps, firsts_of};
 ghost use Rattle.lic_find.specs.Counts.{AreCounted};
 ghost use Rattle.lic_find.specs.Firsts.{NotedFirst, noted_with};
-ghost use Rattle.lic_find.specs.Listing.{triple_at};
-ghost use Rattle.lic_set.specs.Matches.{AreMatches, IsAfter};
+ghost use Rattle.lic_set.specs.Matches.{AreMatches, IsAfter, triple_at};
 ghost use Rattle.lic_find.specs.Starts.{starts_in};
 ghost use Rattle.lic_find.specs.Scans.{AllEndBy, BeginsAt, HasCome, IsNextOfRange, NoneBegins};
 

@@ -20,7 +20,7 @@ use Rattle.lic_places.specs.Places.{AreTexts, IsAfterBlank, Occurs, is_blank_at,
 use Rattle.lic_places.specs.Reads.{Reads, Takes}
 use Rattle.lic_places.proofs.Reading.{Reads-cut, Reads-order}
 use Rattle.lic_places.proofs.Spelled.{spelled-front}
-use Rattle.lic_places.proofs.TextReading.{text_read, text_stands}
+use Rattle.lic_places.proofs.TextReading.{text_read, text_occurs}
 use Rattle.lic_places.proofs.TieRange.{spelling_is_read}
 use Rattle.lic_places.proofs.TokenPlaces.{OverBlank-order}
 use Rattle.lic_literals.specs.Ends.{EndsAt}
@@ -30,7 +30,7 @@ use Rattle.lic_keys.proofs.TextWords.{text-words}
 pub text-read : (tokens : List TokenValue) (text : List ℕ) (p q : ℕ) → AreTexts tokens → IsUtf8 text → IsPieceText text → 0 < length text →
     ¬ (IsTrue (is_blank_at text 0)) → ¬ (IsAfterBlank text (length text)) → Reads tokens p (chars text) q ↔ Occurs (spelling_of tokens) p text q
 text-read tokens text p q texts utf8 piece some front end =
-    (text_stands tokens text p q texts utf8 piece some front end, text_read tokens text p q utf8)
+    (text_occurs tokens text p q texts utf8 piece some front end, text_read tokens text p q utf8)
 
 -- a token ends within the text
 pub end-within : (tokens : List TokenValue) (i : ℕ) → i < length tokens → place_end tokens i ≤ length (spelling_of tokens)
@@ -96,7 +96,7 @@ text-ends tokens parts number letters p last w texts has within is reads =
     let middle = spelled.3 in
     let back = Reads-cut tokens middle.0 middle.1 front.0 split.0 (subst (λ x. Reads tokens front.0 x split.0) middle.4 front.2) in
     let are = has.edges.are has.some in
-    let stands = (text-read tokens letters front.0 back.0 texts are.utf8 are.piece are.some are.front are.end).0 (subst (λ x. Reads tokens front.0 x back.0) middle.2 back.1) in
+    let occurs = (text-read tokens letters front.0 back.0 texts are.utf8 are.piece are.some are.front are.end).0 (subst (λ x. Reads tokens front.0 x back.0) middle.2 back.1) in
     let blanks = blank-most tokens has.has_end back.0 split.0 (subst (λ x. Reads tokens back.0 x split.0) middle.3 back.2) in
     let forward = Reads-order tokens joined.1 split.0 end split.2 in
     let inside = end-within tokens last within in
@@ -104,7 +104,7 @@ text-ends tokens parts number letters p last w texts has within is reads =
       place = back.0;
       next = split.0;
       word = joined.1;
-      ends = record { start = front.0; end = stands.0; within = omega (arith, blanks.0); is = stands.1 };
+      ends = record { start = front.0; end = occurs.0; within = omega (arith, blanks.0); is = occurs.1 };
       from = blanks.0;
       to = blanks.1;
       is = subst (λ x. Language (parts_words x) joined.1) (ap (λ n. drop n ns) following ∙ drop-map part_of (number + 1) parts) joined.3;

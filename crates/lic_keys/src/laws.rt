@@ -14,7 +14,7 @@ ghost use Rattle.lic_keys.specs.Required.{HasLetters};
 /// The letters of each text outside optional parts end within the canonical spelling of tokens of which the template describes a
 /// range.
 pub fn a_template_describes_no_range_without_its_required_text()
-    ensures stands { (tokens : List TokenValue) (parts : List Part) (number first last : ℕ) (letters : List ℕ)
+    ensures occurs { (tokens : List TokenValue) (parts : List Part) (number first last : ℕ) (letters : List ℕ)
         → AreTexts tokens → HasLetters parts number letters → first ≤ last → last < length tokens
         → IsDescribed (parts_words (map part_of parts))
         (map (λ t. chars t.text) (slice_range tokens first (last + 1)))

@@ -116,14 +116,14 @@ marks_parted rules text n some within all stop =
     let t = get_or text n none in
     let parts = apart s t (all (n - 1) none (omega arith)) (stop none inside) in
     let before = map cell_of (take (n - 1) text) in
-    let behind = map cell_of (drop (n + 1) text) in
+    let past = map cell_of (drop (n + 1) text) in
     let one : n - 1 + 1 ≡ n = omega arith in
     let front : map cell_of (take n text) ≡ before ++ cell_of s ∷ [] =
     ap (λ k. map cell_of (take k text)) (sym one) ∙ ap (map cell_of) (take_more text (n - 1) none (omega arith))
     ∙ map-append cell_of (take (n - 1) text) (s ∷ []) in
-    let rest : map cell_of (drop n text) ≡ cell_of t ∷ behind = ap (map cell_of) (drop_more text n none inside) in
-    ap (streaks_joined rules) (ap₂ (λ a b. a ++ b) front rest ∙ append_assoc before (cell_of s ∷ []) (cell_of t ∷ behind))
-    ∙ streaks_joined-seam rules before (cell_of s) (cell_of t) behind parts.0 parts.1
+    let rest : map cell_of (drop n text) ≡ cell_of t ∷ past = ap (map cell_of) (drop_more text n none inside) in
+    ap (streaks_joined rules) (ap₂ (λ a b. a ++ b) front rest ∙ append_assoc before (cell_of s ∷ []) (cell_of t ∷ past))
+    ∙ streaks_joined-seam rules before (cell_of s) (cell_of t) past parts.0 parts.1
     ∙ ap₂ (λ a b. streaks_joined rules a ++ streaks_joined rules b) (sym front) (sym rest))
     (λ end.
     let empty : map cell_of (drop n text) ≡ [] = ap (map cell_of) (drop_all n text end) in

@@ -17,7 +17,7 @@ use Rattle.lic_lines.specs.Cells.{Cell, Blank, Mark, Word, blank_for, cells_of_c
 use Rattle.lic_lines.specs.Streaks.{streaks_joined}
 use Rattle.lic_lines.specs.Tokens.{Token, both_words, tokens_from, first_tokens, is_text, is_sign_in_parentheses, sign_from, as_sign, single_signs, tokens_of_cells, line_tokens, text_tokens}
 use Rattle.lic_lines.proofs.Gaps.{no_streaks, streaks_joined-gap, first_tokens-gap}
-use Rattle.lic_trim.proofs.ItemLemmas.{char_of, item_none, few_behind}
+use Rattle.lic_trim.proofs.ItemLemmas.{char_of, item_none, few_after}
 use Rattle.lic_trim.proofs.TailSequences.{greatest_ge}
 
 -- ---- the lines
@@ -147,22 +147,22 @@ all_lead line lead item tail some all no_item no_tail =
 module _ (rules : LineRules) (part : LinePart) where
   item_room : (xs : List ℕ) (c : ℕ) → is_whitespace c ≡ true → item_after_lead rules part (xs ++ c ∷ []) ≤ length xs
   item_room xs c white =
-      let behind = option_to_list part.behind in
+      let past = option_to_list part.past in
       ⊎_elim
       (λ on. omega (
         arith,
-        cond-true part.has_front (item_length rules ((xs ++ c ∷ []) ++ behind)) 0 on,
-        ap (item_length rules) (append_assoc xs (c ∷ []) behind),
-        item_within rules xs c behind white,
+        cond-true part.has_front (item_length rules ((xs ++ c ∷ []) ++ past)) 0 on,
+        ap (item_length rules) (append_assoc xs (c ∷ []) past),
+        item_within rules xs c past white,
       ))
-      (λ off. omega (arith, cond-false part.has_front (item_length rules ((xs ++ c ∷ []) ++ behind)) 0 off))
+      (λ off. omega (arith, cond-false part.has_front (item_length rules ((xs ++ c ∷ []) ++ past)) 0 off))
       (cases_Bool part.has_front)
 
   no_item : item_after_lead rules part [] ≡ 0
   no_item = ⊎_elim
-      (λ on. cond-true part.has_front (item_length rules ([] ++ option_to_list part.behind)) 0 on
-      ∙ item_none rules [] (option_to_list part.behind) (omega arith) (few_behind part.behind))
-      (λ off. cond-false part.has_front (item_length rules ([] ++ option_to_list part.behind)) 0 off)
+      (λ on. cond-true part.has_front (item_length rules ([] ++ option_to_list part.past)) 0 on
+      ∙ item_none rules [] (option_to_list part.past) (omega arith) (few_after part.past))
+      (λ off. cond-false part.has_front (item_length rules ([] ++ option_to_list part.past)) 0 off)
       (cases_Bool part.has_front)
 
   no_tail : tail_length rules part [] ≡ 0

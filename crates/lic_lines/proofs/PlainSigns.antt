@@ -21,10 +21,10 @@ plain_step xs at d lt no_parenthesis same =
     let x = get_or xs at d in
     let front : take (at + 1) xs ≡ take at xs ++ x ∷ [] = take_more xs at d lt in
     let next : drop at xs ≡ x ∷ drop (at + 1) xs = rw (add-one, drop-cons xs at d) refl in
-    let behind = single_signs (tokens_in (drop (at + 1) xs)) in
-    ap (λ l. tokens_in l ++ behind) front
-    ∙ ap (λ l. l ++ behind) (map-append token_in (take at xs) (x ∷ []))
-    ∙ append_assoc (tokens_in (take at xs)) (token_in x ∷ []) behind
+    let past = single_signs (tokens_in (drop (at + 1) xs)) in
+    ap (λ l. tokens_in l ++ past) front
+    ∙ ap (λ l. l ++ past) (map-append token_in (take at xs) (x ∷ []))
+    ∙ append_assoc (tokens_in (take at xs)) (token_in x ∷ []) past
     ∙ ap (λ l. tokens_in (take at xs) ++ l)
     (sym (plain_first (token_in x) (tokens_in (drop (at + 1) xs)) no_parenthesis same)
     ∙ ap (λ l. single_signs (tokens_in l)) (sym next))
@@ -35,26 +35,26 @@ no_first a b c none = ap (λ v. v && is_text (codes "c") b && not b.after_blank 
 no_second : (a b c : Token) → is_text (codes "c") b ≡ false → is_sign_in_parentheses a b c ≡ false
 no_second a b c none = at (is_text (codes "(") a)
   where
-    behind : Bool → Bool
-    behind v = v && not b.after_blank && is_text (codes ")") c && not c.after_blank
+    past : Bool → Bool
+    past v = v && not b.after_blank && is_text (codes ")") c && not c.after_blank
 
     at : (first : Bool) → (first && is_text (codes "c") b && not b.after_blank && is_text (codes ")") c && not c.after_blank) ≡ false
-    at true = ap behind none
+    at true = ap past none
     at false = refl
 
 -- one token, or a sign of three
 signs_step : (a b c : Token) (more front rest : List Token) → single_signs more ≡ single_signs front ++ single_signs rest
     → single_signs (b ∷ c ∷ more) ≡ single_signs (b ∷ c ∷ front) ++ single_signs rest
     → single_signs (a ∷ b ∷ c ∷ more) ≡ single_signs (a ∷ b ∷ c ∷ front) ++ single_signs rest
-signs_step a b c more front rest behind_sign behind_token =
+signs_step a b c more front rest after_sign after_token =
     ⊎_elim
     (λ yes.
-    cond-true (is_sign_in_parentheses a b c) _ _ yes ∙ ap (λ l. sign_from a c ∷ l) behind_sign
+    cond-true (is_sign_in_parentheses a b c) _ _ yes ∙ ap (λ l. sign_from a c ∷ l) after_sign
     ∙ ap (λ l. l ++ single_signs rest)
     (sym (cond-true (is_sign_in_parentheses a b c) (sign_from a c ∷ single_signs front)
     (as_sign a ∷ single_signs (b ∷ c ∷ front)) yes)))
     (λ none.
-    cond-false (is_sign_in_parentheses a b c) _ _ none ∙ ap (λ l. as_sign a ∷ l) behind_token
+    cond-false (is_sign_in_parentheses a b c) _ _ none ∙ ap (λ l. as_sign a ∷ l) after_token
     ∙ ap (λ l. l ++ single_signs rest)
     (sym (cond-false (is_sign_in_parentheses a b c) (sign_from a c ∷ single_signs front)
     (as_sign a ∷ single_signs (b ∷ c ∷ front)) none)))

@@ -59,17 +59,17 @@ pub front_mark : (rules : LineRules) (after_blank : Bool) (text : List SourceCha
     → bytes_eq (codes "(") letters ≡ false → bytes_eq (encode_utf8_all (0xA9 ∷ [])) letters ≡ false
     → text_token after_blank 1 letters text d ∷ text_tokens_after rules false (drop 1 text) ≡ text_tokens_after rules after_blank text
 front_mark rules after_blank [] letters d some mark alone is no_parenthesis no_sign = absurd (omega arith)
-front_mark rules after_blank (s ∷ behind) letters d some mark alone is no_parenthesis no_sign =
-    let text = s ∷ behind in
+front_mark rules after_blank (s ∷ past) letters d some mark alone is no_parenthesis no_sign =
+    let text = s ∷ past in
     let t = text_token after_blank 1 letters text d in
-    let rest = tokens_after rules false behind in
+    let rest = tokens_after rules false past in
     let streaks : streaks_joined rules (map cell_of (s ∷ [])) ≡ Mark s ∷ [] = ap (λ c. streaks_joined rules (c ∷ [])) (cell_of-Mark s mark) ∙ one_mark rules s in
     let spelled : letters ≡ encode_utf8_all (letters_of (Mark s ∷ [])) = is ∙ ap encode_utf8_all (sym (append-nil (spell s.char))) in
     sym (plain_first t rest no_parenthesis
     (cond-false (is_text (encode_utf8_all (0xA9 ∷ [])) t) (record t { text = codes "copyright" }) t no_sign))
     ∙ ap single_signs
     (ap (λ l. let u : Token = record { text = l; start = s.start; end = s.end; after_blank = after_blank } in u ∷ rest) spelled
-    ∙ sym (ap (λ l. tokens_from after_blank (groups both_words l) ++ tokens_after rules (blank_after after_blank (groups both_words l)) behind) streaks)
+    ∙ sym (ap (λ l. tokens_from after_blank (groups both_words l) ++ tokens_after rules (blank_after after_blank (groups both_words l)) past) streaks)
     ∙ marks_sequence rules after_blank text 1
     (omega arith) (omega arith)
     (λ i e lt. let here : i ≡ 0 = omega arith in ap (λ k. kind_of (get_or text k e).char) here ∙ mark)

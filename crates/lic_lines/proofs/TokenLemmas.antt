@@ -100,8 +100,8 @@ left_of-range cut line =
     ap (λ n. take n (drop (cut.lead + cut.item) line)) size
 
 -- tokens after those that were there
-pub tokens_behind : (old pushed : List FirstToken) (more : List Token) → tokens_in pushed ≡ tokens_in old ++ more → length old ≤ length pushed
-tokens_behind old pushed more e = omega (arith, ap length e, length-append (tokens_in old) more, length-map pushed token_in, length-map old token_in)
+pub tokens_past : (old pushed : List FirstToken) (more : List Token) → tokens_in pushed ≡ tokens_in old ++ more → length old ≤ length pushed
+tokens_past old pushed more e = omega (arith, ap length e, length-append (tokens_in old) more, length-map pushed token_in, length-map old token_in)
 
 pub take_old : (old pushed : List FirstToken) (more : List Token) → tokens_in pushed ≡ tokens_in old ++ more
     → tokens_in (take (length old) pushed) ≡ tokens_in old
@@ -135,8 +135,8 @@ module _ (xs : List FirstToken) (kept at : ℕ) (order : kept ≤ at) (within : 
       ∙ get_or-set_same (set xs kept x) kept y d (omega arith) ∙ ap (λ i. get_or xs i d) (sym same))
       (cases_lt kept at)
 
-  pub swap_behind : (i : ℕ) → at < i → get_or (swap xs kept at) i d ≡ get_or xs i d
-  swap_behind i behind =
+  pub swap_after : (i : ℕ) → at < i → get_or (swap xs kept at) i d ≡ get_or xs i d
+  swap_after i past =
       ap (λ l. get_or l i d) moved
       ∙ get_or-set_other (set xs kept (get_or xs at d)) at i (get_or xs kept d) d (omega arith)
       ∙ get_or-set_other xs kept i (get_or xs at d) d (omega arith)
@@ -157,9 +157,9 @@ module _ (xs : List FirstToken) (kept at : ℕ) (order : kept ≤ at) (within : 
       (get_or-set_same (swap xs kept at) kept t d (omega (arith, length-moved)))
 
   kept_rest : (t : FirstToken) (n : ℕ) → at < n → drop n (set (swap xs kept at) kept t) ≡ drop n xs
-  kept_rest t n behind =
+  kept_rest t n past =
       drop-set-lt n (swap xs kept at) kept t (omega arith) ∙ ap (drop n) moved
-      ∙ drop-set-lt n (set xs kept (get_or xs at d)) at (get_or xs kept d) behind ∙ drop-set-lt n xs kept (get_or xs at d) (omega arith)
+      ∙ drop-set-lt n (set xs kept (get_or xs at d)) at (get_or xs kept d) past ∙ drop-set-lt n xs kept (get_or xs at d) (omega arith)
 
   front_tokens : (t : FirstToken) → tokens_in (take (kept + 1) (set (swap xs kept at) kept t)) ≡ tokens_in (take kept xs) ++ token_in t ∷ []
   front_tokens t = ap tokens_in (kept_front t) ∙ map-append token_in (take kept xs) (t ∷ [])

@@ -99,7 +99,7 @@ pub fn push_tokens_of_line(
     rules: &Rules,
     part: LinePart,
     line: &[SourceChar],
-    room: &mut Buffers,
+    buffers: &mut Buffers,
     out: &mut Vec<FirstToken>,
 ) -> Result<(), AllocError>
     ensures { OnOk result (tokens_in out.new.items
@@ -107,7 +107,7 @@ pub fn push_tokens_of_line(
 {
     let left = left_of_line(alloc, rules, part, line)?;
     let from = out.len();
-    push_text(alloc, rules, left, room, out)?;
+    push_text(alloc, rules, left, buffers, out)?;
     join_single_signs(out, from);
     Ok(())
 }

@@ -16,7 +16,7 @@ fn may_join(a: char, b: char) -> bool
 
 /// Whether a character after a mark is a mark that may be joined to it.
 #[inline(always)]
-pub(crate) fn goes_on(mark: char, next: char) -> bool
+pub(crate) fn continues(mark: char, next: char) -> bool
     ensures mark { IsTrue result → kind_of next ≡ Kind.Mark }
     ensures stop { result ≡ false → kind_of next ≡ Kind.Mark → may_join mark next ≡ false }
 {
@@ -37,7 +37,7 @@ pub(crate) fn mark_count(text: &[SourceChar]) -> usize
         (slice_index_or text.now result d).char ≡ false }
 {
     let mut count = 1;
-    while count < text.len() && goes_on(text[count - 1].char, text[count].char) {
+    while count < text.len() && continues(text[count - 1].char, text[count].char) {
         count += 1;
     }
     count

@@ -33,7 +33,7 @@ fn push_marks(
     rules: &Rules,
     after_blank: bool,
     marks: &[SourceChar],
-    room: &mut Buffers,
+    buffers: &mut Buffers,
     out: &mut Vec<FirstToken>,
 ) -> Result<bool, AllocError>
     requires { All (λ s. kind_of s.char ≡ Kind.Mark) marks.now }
@@ -47,13 +47,13 @@ fn push_marks(
         (groups both_words (streaks_joined (rules_of rules.now) (map cell_of marks.now)))) }
 {
     if let [mark] = marks {
-        out.push(mark_token(alloc, after_blank, *mark, &mut room.letters)?)?;
+        out.push(mark_token(alloc, after_blank, *mark, &mut buffers.letters)?)?;
         return Ok(false);
     }
-    room.cells.clear();
-    push_cells(&mut room.cells, marks)?;
-    let joined = room.streaks.join(rules, &room.cells)?;
-    push_first_tokens(alloc, after_blank, out, joined, &mut room.letters)
+    buffers.cells.clear();
+    push_cells(&mut buffers.cells, marks)?;
+    let joined = buffers.streaks.join(rules, &buffers.cells)?;
+    push_first_tokens(alloc, after_blank, out, joined, &mut buffers.letters)
 }
 
 /// Adds the tokens of the longest sequence of characters of one kind at the start of a text.
@@ -62,7 +62,7 @@ fn push_front(
     rules: &Rules,
     after_blank: bool,
     text: &[SourceChar],
-    room: &mut Buffers,
+    buffers: &mut Buffers,
     out: &mut Vec<FirstToken>,
 ) -> Result<FrontPart, AllocError>
     requires { 0 < length text.now }
@@ -78,8 +78,8 @@ fn push_front(
             blank_after: true,
         }),
         Kind::Word => {
-            let length = spell_word(alloc, text, &mut room.letters)?;
-            let letters = room.letters.as_str();
+            let length = spell_word(alloc, text, &mut buffers.letters)?;
+            let letters = buffers.letters.as_str();
             out.push(word_token(alloc, after_blank, &text[..length], letters)?)?;
             Ok(FrontPart {
                 length,
@@ -88,7 +88,7 @@ fn push_front(
         }
         Kind::Mark => {
             let length = mark_count(text);
-            let blank_after = push_marks(alloc, rules, after_blank, &text[..length], room, out)?;
+            let blank_after = push_marks(alloc, rules, after_blank, &text[..length], buffers, out)?;
             Ok(FrontPart {
                 length,
                 blank_after,
@@ -103,7 +103,7 @@ pub(crate) fn push_text(
     alloc: Global,
     rules: &Rules,
     text: &[SourceChar],
-    room: &mut Buffers,
+    buffers: &mut Buffers,
     out: &mut Vec<FirstToken>,
 ) -> Result<(), AllocError>
     ensures { OnOk result (tokens_in out.new.items
@@ -112,7 +112,7 @@ pub(crate) fn push_text(
     let mut after_blank = true;
     let mut at = 0;
     while at < text.len() {
-        let sequence = push_front(alloc, rules, after_blank, &text[at..], room, out)?;
+        let sequence = push_front(alloc, rules, after_blank, &text[at..], buffers, out)?;
         after_blank = sequence.blank_after;
         at += sequence.length;
     }
@@ -125,7 +125,7 @@ fn push_sequences(
     rules: &Rules,
     after_blank: bool,
     text: &[SourceChar],
-    room: &mut Buffers,
+    buffers: &mut Buffers,
     out: &mut Vec<FirstToken>,
 ) -> Result<FrontPart, AllocError>
     requires some { 0 < length text.now }
@@ -143,7 +143,7 @@ fn push_sequences(
     let mut blank_after = after_blank;
     let mut length = 0;
     while length < text.len() {
-        let sequence = push_front(alloc, rules, blank_after, &text[length..], room, out)?;
+        let sequence = push_front(alloc, rules, blank_after, &text[length..], buffers, out)?;
         blank_after = sequence.blank_after;
         length += sequence.length;
         if signs_end(out, blank_after) {
@@ -157,7 +157,7 @@ fn push_sequences(
 }
 
 /// Lists the tokens of a part at the beginning of a text, in place of those in `out`. The text is after a blank or not;
-/// nothing is taken from it. The buffers of `room` may hold anything.
+/// nothing is taken from it. The buffers may hold anything.
 ///
 /// The error is that memory ran out; what `out` then holds is of no use.
 pub fn front_part(
@@ -165,7 +165,7 @@ pub fn front_part(
     rules: &Rules,
     after_blank: bool,
     text: &[SourceChar],
-    room: &mut Buffers,
+    buffers: &mut Buffers,
     out: &mut Vec<FirstToken>,
 ) -> Result<FrontPart, AllocError>
     requires some { 0 < length text.now }
@@ -176,7 +176,7 @@ pub fn front_part(
         ≡ text_tokens_after (rules_of rules.now) after_blank text.now) }
 {
     out.clear();
-    let part = push_sequences(alloc, rules, after_blank, text, room, out)?;
+    let part = push_sequences(alloc, rules, after_blank, text, buffers, out)?;
     join_single_signs(out, 0);
     Ok(part)
 }

@@ -4,7 +4,7 @@ ghost use Rattle.lic_kind.specs.Kinds.{kind_of};
 ghost use Rattle.lic_lines.specs.Streaks.{may_join};
 ghost use Rattle.lic_lines.specs.TextStarts.{IsTextStart};
 
-use crate::mark_sequences::goes_on;
+use crate::mark_sequences::continues;
 use crate::tokens::spell_word;
 use lic_kind::{Kind, kind_of, mark_letter};
 use lic_trim::SourceChar;
@@ -56,7 +56,7 @@ fn is_joined(text: &[SourceChar]) -> bool
         → kind_of (slice_index_or text.now 1 d).char ≡ Kind.Mark
         → may_join (slice_index_or text.now 0 d).char (slice_index_or text.now 1 d).char ≡ false }
 {
-    text.len() > 1 && goes_on(text[0].char, text[1].char)
+    text.len() > 1 && continues(text[0].char, text[1].char)
 }
 
 /// The mark at the start of a text, whose letter is put in the place of the letters that are there.

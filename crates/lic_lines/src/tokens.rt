@@ -76,19 +76,19 @@ fn spell_cells(alloc: Global, cells: &[Cell], text: &mut String) -> Result<(), A
     Ok(())
 }
 
-/// The token of a group of cells, of which the first was read from this character. The room may hold anything.
+/// The token of a group of cells, of which the first was read from this character. The buffer may hold anything.
 fn token_of(
     alloc: Global,
     after_blank: bool,
     first: SourceChar,
     group: &[Cell],
-    room: &mut String,
+    letters: &mut String,
 ) -> Result<FirstToken, AllocError>
     ensures { IfOk result (λ token. token_in token ≡ token_of after_blank first group.now) }
 {
-    spell_cells(alloc, group, room)?;
+    spell_cells(alloc, group, letters)?;
     Ok(FirstToken {
-        text: SmallString::from_str(alloc, room.as_str())?,
+        text: SmallString::from_str(alloc, letters.as_str())?,
         start: first.start,
         end: end_after(first.start, group),
         after_blank,
@@ -141,19 +141,19 @@ pub(crate) fn word_token(
     })
 }
 
-/// The token of a mark by itself. The room may hold anything.
+/// The token of a mark by itself. The buffer may hold anything.
 pub(crate) fn mark_token(
     alloc: Global,
     after_blank: bool,
     mark: SourceChar,
-    room: &mut String,
+    letters: &mut String,
 ) -> Result<FirstToken, AllocError>
     ensures { IfOk result (λ token. token_in token ≡ token_of after_blank mark (Mark mark ∷ [])) }
 {
-    room.clear();
-    push_spelled(alloc, room, mark.char)?;
+    letters.clear();
+    push_spelled(alloc, letters, mark.char)?;
     Ok(FirstToken {
-        text: SmallString::from_str(alloc, room.as_str())?,
+        text: SmallString::from_str(alloc, letters.as_str())?,
         start: mark.start,
         end: mark.end,
         after_blank,
@@ -167,7 +167,7 @@ pub(crate) fn push_first_tokens(
     mut after_blank: bool,
     out: &mut Vec<FirstToken>,
     cells: &[Cell],
-    room: &mut String,
+    letters: &mut String,
 ) -> Result<bool, AllocError>
     ensures tokens { OnOk result
         (tokens_in out.new.items
@@ -181,7 +181,7 @@ pub(crate) fn push_first_tokens(
         match cells[at] {
             Cell::Blank => after_blank = true,
             Cell::Mark(first) | Cell::Word(first) => {
-                let token = token_of(alloc, after_blank, first, &cells[at..end], room)?;
+                let token = token_of(alloc, after_blank, first, &cells[at..end], letters)?;
                 out.push(token)?;
                 after_blank = false;
             }

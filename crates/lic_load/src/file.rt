@@ -9,7 +9,7 @@ use std::fs::File;
 use std::rt::Files;
 
 /// The most bytes of such a file.
-const MAX_BYTES: usize = 67_108_864;
+const MAX_FILE_BYTES: usize = 67_108_864;
 
 /// The bytes of a file. `None` where it cannot be opened or read, or has more than 67,108,864.
 ///
@@ -28,8 +28,8 @@ pub fn read_bytes<Rt: Files>(
         Err(e) if wants_memory(&e) => return Err(AllocError),
         Err(_) => return Ok(None),
     };
-    match read_up_to(alloc, &mut Counted::new(file), MAX_BYTES + 1) {
-        Ok(bytes) if bytes.len() > MAX_BYTES => Ok(None),
+    match read_up_to(alloc, &mut Counted::new(file), MAX_FILE_BYTES + 1) {
+        Ok(bytes) if bytes.len() > MAX_FILE_BYTES => Ok(None),
         Ok(bytes) => Ok(Some(bytes)),
         Err(ReadFault::Read) => Ok(None),
         Err(ReadFault::Memory) => Err(AllocError),

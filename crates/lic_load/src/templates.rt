@@ -223,7 +223,7 @@ pub struct Loaded {
 }
 
 /// Reports the names that are not UTF-8.
-fn tell_unnamed<E: Sink>(err: &mut E, count: usize)
+fn report_unnamed<E: Sink>(err: &mut E, count: usize)
     ensures { IsRepeated line_of_unnamed (E.taken err.old) (E.failed err.old) count
         (E.taken err.new) (E.failed err.new) }
 {
@@ -233,7 +233,7 @@ fn tell_unnamed<E: Sink>(err: &mut E, count: usize)
 }
 
 /// Reports a template that is left out, and why.
-fn tell_left_out<E: Sink>(
+fn report_left_out<E: Sink>(
     alloc: Global,
     err: &mut E,
     id: &str,
@@ -273,7 +273,7 @@ pub fn load_all<Rt: Files + AllocGlobal, E: Sink>(
     ensures refused { IfErr result (IsFaultOfTemplates (rules_of rules.now) words.now listing
         (E.taken err.old) (E.taken err.new) (E.failed err.old) (E.failed err.new)) }
 {
-    tell_unnamed(err, listing.unnamed);
+    report_unnamed(err, listing.unnamed);
     let mut is_refused = listing.unnamed > 0;
     let mut templates = Vec::new(alloc);
     for id in listing.ids {
@@ -281,7 +281,7 @@ pub fn load_all<Rt: Files + AllocGlobal, E: Sink>(
             Ok(template) => templates.push((id, template))?,
             Err(TemplateFault::Memory) => return Err(LoadFault::Memory),
             Err(fault) => {
-                tell_left_out(alloc, err, id.as_str(), &fault)?;
+                report_left_out(alloc, err, id.as_str(), &fault)?;
                 is_refused = true;
             }
         }

@@ -5,7 +5,7 @@ use Rattle.std.specs.List.{list_all}
 use Rattle.lic_marks.specs.Cores.{Core, one, cat_all, alt_all, any_prefix, plus, tidy}
 use Rattle.lic_marks.specs.Marks.{is_nullable}
 use Rattle.lic_marks.specs.Rows.{weight}
-use Rattle.lic_marks.specs.Nodes.{core_of, passes, is_measured, letter_cores, so_many, IsBuilt}
+use Rattle.lic_marks.specs.Nodes.{core_of, passes, is_measured, letter_cores, times_over, IsBuilt}
 use Rattle.lic_marks.specs.declared.test.Test.{Test}
 use Rattle.lic_marks.specs.declared.node.Times.{Times}
 use Rattle.lic_marks.specs.declared.node.Node.{Node, Letters, One, Copies, UpTo, Cat, Alt, Repeat, Plus, Tidy}
@@ -44,7 +44,7 @@ module _ (children : Vec Node Global) (kept : ℕ) (all : list_all is_measured c
   }
 
 pub IsBuilt-Repeat : (child : Box Node Global) (times : Times) (kept : ℕ) → is_measured child.value ≡ true →
-    kept ≡ weight (so_many times (core_of child.value)) → IsBuilt (so_many times (core_of child.value)) (Repeat child times kept)
+    kept ≡ weight (times_over times (core_of child.value)) → IsBuilt (times_over times (core_of child.value)) (Repeat child times kept)
 IsBuilt-Repeat child times kept all size = record {
   core = core_of-Repeat child times kept;
   measured = is_measured-Repeat child times kept ∙ and_both (is_measured child.value) _ all (eq-eqb kept _ size);

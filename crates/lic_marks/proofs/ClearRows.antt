@@ -52,8 +52,8 @@ clear_if_none row end e false some = (
 pub patched_clear : (old new : List Bool) (at end : ℕ) → at ≤ end → end ≤ length old → length new ≡ length old →
     IsKeptOutside at end (flag_at old) (flag_at new) → ((k : ℕ) → at ≤ k → k < end → get_or new k false ≡ false)
     → new ≡ take at old ++ replicate (end - at) false ++ drop end old
-patched_clear old new at end order room long kept here =
-    patched old (replicate (end - at) false) at end (omega arith) (omega (arith, length-replicate (end - at) false)) new room long kept.before
+patched_clear old new at end order width long kept here =
+    patched old (replicate (end - at) false) at end (omega arith) (omega (arith, length-replicate (end - at) false)) new width long kept.before
     (λ j h. here (at + j) (omega arith) (omega (arith, h, length-replicate (end - at) false)) ∙ sym (flag-replicate (end - at) j)) kept.past
 
 -- ---- some flag is set
@@ -71,13 +71,13 @@ same_answer false false f g = refl
 -- some flag of a range is set
 pub any_is : (row : List Bool) (at end : ℕ) (b : Bool) → end ≤ length row
     → (b ≡ true) ↔ ((k : ℕ) × (at ≤ k) × (k < end) × (get_or row k false ≡ true)) → b ≡ list_any (λ flag. flag) (slice_range row at end)
-any_is row at end b room is = same_answer b (list_any (λ flag. flag) (slice_range row at end))
+any_is row at end b width is = same_answer b (list_any (λ flag. flag) (slice_range row at end))
     (λ h. let e = is.0 h in
     let same : at + (e.0 - at) ≡ e.0 = omega (arith, e.1) in
-    list_any_at (λ flag. flag) (slice_range row at end) (e.0 - at) false (omega (arith, e.1, e.2, length-between row at end room))
+    list_any_at (λ flag. flag) (slice_range row at end) (e.0 - at) false (omega (arith, e.1, e.2, length-between row at end width))
     (get_or-between row at end (e.0 - at) false (omega (arith, e.1, e.2)) ∙ ap (λ i. get_or row i false) same ∙ e.3))
     (λ h. let f = found (slice_range row at end) h in
-    let near : f.0 < end - at = omega (arith, f.1, length-between row at end room) in
+    let near : f.0 < end - at = omega (arith, f.1, length-between row at end width) in
     is.1 (at + f.0, omega arith, omega (arith, near), sym (get_or-between row at end f.0 false (omega (arith, near))) ∙ f.2))
 
 -- none of a range is set

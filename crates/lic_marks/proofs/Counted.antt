@@ -4,7 +4,7 @@ use Rattle.std.proofs.Math.Nat.{suc-mul, zero-mul}
 use Rattle.lic_marks.specs.Cores.{Core, empty, cat, alt, copies, up_to}
 use Rattle.lic_marks.specs.Marks.{is_nullable}
 use Rattle.lic_marks.specs.Rows.{weight}
-use Rattle.lic_marks.specs.Nodes.{so_many}
+use Rattle.lic_marks.specs.Nodes.{times_over}
 use Rattle.lic_marks.specs.declared.node.Times.TheVariants.{Bounded, Unbounded}
 use Rattle.lic_marks.proofs.Cuts.{and_left, and_right, and_both}
 
@@ -29,10 +29,10 @@ module _ (a : Core) where
   pub weight-same : (n : ℕ) → weight (copies n a) ≡ weight (up_to n a)
   weight-same n = omega (arith, weight-copies n, weight-up_to n)
 
-  pub weight-bounded : (needed more : ℕ) → weight (so_many (Bounded needed more) a) ≡ needed * weight a + more * weight a
+  pub weight-bounded : (needed more : ℕ) → weight (times_over (Bounded needed more) a) ≡ needed * weight a + more * weight a
   weight-bounded needed more = omega (arith, weight-copies needed, weight-up_to more)
 
-  pub weight-unbounded : (before : ℕ) → weight (so_many (Unbounded before) a) ≡ before * weight a + 1 * weight a
+  pub weight-unbounded : (before : ℕ) → weight (times_over (Unbounded before) a) ≡ before * weight a + 1 * weight a
   weight-unbounded before = omega (arith, weight-copies before)
 
   -- the first of the copies that are left after `i` of them
@@ -64,18 +64,18 @@ module _ (a : Core) where
   nullable-copies zero h = refl
   nullable-copies (suc n) h = and_both (is_nullable a) (is_nullable (copies n a)) h (nullable-copies n h)
 
-  some_copies : (n more : ℕ) → is_nullable (so_many (Bounded (suc n) more) a) ≡ is_nullable a
+  some_copies : (n more : ℕ) → is_nullable (times_over (Bounded (suc n) more) a) ≡ is_nullable a
   some_copies n more =
-      both_ways (is_nullable (so_many (Bounded (suc n) more) a)) (is_nullable a)
+      both_ways (is_nullable (times_over (Bounded (suc n) more) a)) (is_nullable a)
       (λ h. and_left (is_nullable a) (is_nullable (copies n a)) (and_left (is_nullable (copies (suc n) a)) (is_nullable (up_to more a)) h))
       (λ h. and_both (is_nullable (copies (suc n) a)) (is_nullable (up_to more a)) (nullable-copies (suc n) h) (nullable-up_to more))
 
-  pub nullable-bounded : (needed more : ℕ) → ((needed == 0) || is_nullable a) ≡ is_nullable (so_many (Bounded needed more) a)
+  pub nullable-bounded : (needed more : ℕ) → ((needed == 0) || is_nullable a) ≡ is_nullable (times_over (Bounded needed more) a)
   nullable-bounded zero more = sym (nullable-up_to more)
   nullable-bounded (suc n) more = ap (λ b. b || is_nullable a) (ne_eqb (suc n) 0 (λ z. cc)) ∙ sym (some_copies n more)
 
-  pub nullable-unbounded : (before : ℕ) → is_nullable (so_many (Unbounded before) a) ≡ is_nullable a
+  pub nullable-unbounded : (before : ℕ) → is_nullable (times_over (Unbounded before) a) ≡ is_nullable a
   nullable-unbounded before =
-      both_ways (is_nullable (so_many (Unbounded before) a)) (is_nullable a)
+      both_ways (is_nullable (times_over (Unbounded before) a)) (is_nullable a)
       (λ h. and_right (is_nullable (copies before a)) (is_nullable a) h)
       (λ h. and_both (is_nullable (copies before a)) (is_nullable a) (nullable-copies before h) h)

@@ -71,15 +71,15 @@ module _ (r : Core) (entry : Bool) (at_once after_blanks first : Marks r) (A : W
       (take true false (join r after_blanks first) v (inl h))
 
   -- where one may begin besides, what continued continues
-  goes_on : (v : Word) → Continues r false entry at_once v → Continues r false true at_once v
-  goes_on v (inl h) = inl h
-  goes_on v (inr h) = inr (refl, h.1)
+  continues : (v : Word) → Continues r false entry at_once v → Continues r false true at_once v
+  continues v (inl h) = inl h
+  continues v (inr h) = inr (refl, h.1)
 
   complete : (are_words : Bool) (v : Word) → Entered r (gap_of true are_words) c A v → Completes r false (both are_words) v
   complete are_words v (inl (zero, a, h)) = to_at_once are_words v (inr (refl, h))
   complete are_words v (inl (suc n, a, h)) = to_after_blanks are_words v (join-right r true after_blanks first (c ∷ v) (first_complete (c ∷ v) n h))
   complete true v (inr (zero, a, h)) = absurd (omega (arith, a))
-  complete false v (inr (zero, a, h)) = to_at_once false v (goes_on (c ∷ v) (s.now.complete (c ∷ v) h))
+  complete false v (inr (zero, a, h)) = to_at_once false v (continues (c ∷ v) (s.now.complete (c ∷ v) h))
   complete are_words v (inr (suc n, a, h)) = to_after_blanks are_words v (join-left r true after_blanks first (c ∷ v) (s.blanks_complete (c ∷ v) n h))
 
   pub Leads-entered : (are_words : Bool) → Leads r false (both are_words) (Entered r (gap_of true are_words) c A)

@@ -134,7 +134,7 @@ module _ (takes : ℕ → Bool) (old : List Bool) (at n : ℕ) where
         inside (suc j) h = later entry j h
 
     pub Moves-entered : 0 < n → at + n ≤ length row → (entry : Bool) → entry ≡ true → Moves takes entry old at n (set row at (takes 0))
-    Moves-entered some room entry is = record {
+    Moves-entered some width entry is = record {
       inside = inside;
       before = λ k h. get_or-set_other row at k (takes 0) false (omega arith) ∙ f.below k h;
       past = λ k h. get_or-set_other row at k (takes 0) false (omega arith) ∙ f.past k h;
@@ -183,7 +183,7 @@ flag-up_to passes (suc n) after entry c row (suc j) h =
     flag-up_to passes n after (first_flag row) c (drop 1 row) j (omega (arith, h)) ∙ ap (λ b. b && passes c) (before_next row j)
 
 module _ (r : Core) (takes : ℕ → Bool) (after entry : Bool) (c : ℕ) (old : List Bool) (at n : ℕ) (new : List Bool) (x : Bool)
-    (size : weight r ≡ n) (room : at + n ≤ length old) (long : length new ≡ length old)
+    (size : weight r ≡ n) (width : at + n ≤ length old) (long : length new ≡ length old)
     (flags : (j : ℕ) → j < n → get_or (flags_of r (shift r after entry (marks_of r (drop at old)) c)) j false
     ≡ (flag_before (drop at old) entry j && takes j)) where
   Shifts-moved : Leaves r after entry old at x → Moves takes entry old at n new → Shifts r after entry c old at new x
@@ -199,20 +199,20 @@ module _ (r : Core) (takes : ℕ → Bool) (after entry : Bool) (c : ℕ) (old :
 pub Shifts-letters : (text : List ℕ) (after entry : Bool) (c : ℕ) (old : List Bool) (at : ℕ) (new : List Bool) (x : Bool) →
     at + length text ≤ length old → length new ≡ length old → Leaves (cat_all (letter_cores text)) after entry old at x →
     Moves (λ j. c == get_or text j 0) entry old at (length text) new → Shifts (cat_all (letter_cores text)) after entry c old at new x
-Shifts-letters text after entry c old at new x room long p m =
+Shifts-letters text after entry c old at new x width long p m =
     Shifts-moved (cat_all (letter_cores text)) (λ j. c == get_or text j 0) after entry c old at (length text) new x
-    (weight-letters text) room long (flag-letters text after entry c (drop at old)) p m
+    (weight-letters text) width long (flag-letters text after entry c (drop at old)) p m
 
 module _ (passes : ℕ → Bool) (n : ℕ) (after entry : Bool) (c : ℕ) (old : List Bool) (at : ℕ) (new : List Bool) (x : Bool)
-    (room : at + n ≤ length old) (long : length new ≡ length old) where
+    (width : at + n ≤ length old) (long : length new ≡ length old) where
   pub Shifts-copies : Leaves (cat_all (replicate n (one passes))) after entry old at x → Moves (λ j. passes c) entry old at n new →
       Shifts (cat_all (replicate n (one passes))) after entry c old at new x
   Shifts-copies p m =
       Shifts-moved (cat_all (replicate n (one passes))) (λ j. passes c) after entry c old at n new x
-      (weight-copies passes n) room long (flag-copies passes n after entry c (drop at old)) p m
+      (weight-copies passes n) width long (flag-copies passes n after entry c (drop at old)) p m
 
   pub Shifts-up_to : Leaves (any_prefix (replicate n (one passes))) after entry old at x → Moves (λ j. passes c) entry old at n new →
       Shifts (any_prefix (replicate n (one passes))) after entry c old at new x
   Shifts-up_to p m =
       Shifts-moved (any_prefix (replicate n (one passes))) (λ j. passes c) after entry c old at n new x
-      (weight-up_to passes n) room long (flag-up_to passes n after entry c (drop at old)) p m
+      (weight-up_to passes n) width long (flag-up_to passes n after entry c (drop at old)) p m

@@ -5,7 +5,7 @@ use Rattle.std.specs.Bool.{beq}
 use Rattle.lic_marks.specs.Cores.{Core, one, cat_all, alt_all, any_prefix, plus, tidy}
 use Rattle.lic_marks.specs.Marks.{is_nullable}
 use Rattle.lic_marks.specs.Rows.{weight}
-use Rattle.lic_marks.specs.Nodes.{passes, letter_cores, so_many, node_core, core_of, are_right, cores_of, node_is_measured, is_measured}
+use Rattle.lic_marks.specs.Nodes.{passes, letter_cores, times_over, node_core, core_of, are_right, cores_of, node_is_measured, is_measured}
 use Rattle.lic_marks.proofs.LetterSteps.{weight-letters, weight-copies, weight-up_to}
 use Rattle.lic_marks.proofs.Cuts.{and_left, and_right}
 use Rattle.lic_marks.specs.declared.test.Test.{Test}
@@ -46,11 +46,11 @@ module _ (children : Vec Node Global) (kept : ℕ) where
   core_of-Alt = ap core_of (sym (rolls-Alt children kept)) ∙ fold-roll-Node Core node_core (Node-F.Alt children kept)
 
 module _ (child : Box Node Global) (times : Times) (kept : ℕ) where
-  pub core_of-Repeat : core_of (Repeat child times kept) ≡ so_many times (core_of child.value)
+  pub core_of-Repeat : core_of (Repeat child times kept) ≡ times_over times (core_of child.value)
   core_of-Repeat = ap core_of (sym (rolls-Repeat child times kept)) ∙ fold-roll-Node Core node_core (Node-F.Repeat child times kept)
 
   pub is_measured-Repeat : is_measured (Repeat child times kept)
-      ≡ (is_measured child.value && (kept == weight (so_many times (core_of child.value))))
+      ≡ (is_measured child.value && (kept == weight (times_over times (core_of child.value))))
   is_measured-Repeat = ap is_measured (sym (rolls-Repeat child times kept)) ∙ para-roll-Node Bool node_is_measured (Node-F.Repeat child times kept)
 
   pub weight-Repeat : is_measured (Repeat child times kept) ≡ true → kept ≡ weight (core_of (Repeat child times kept))

@@ -3,20 +3,20 @@ use Rattle.std.proofs.Common.{◌≡◌, ℕ, ◌+◌, ◌-◌, ◌≤◌, ◌<�
 use Rattle.std.proofs.lemmas.List.{length-take-le, get_or_append_left, get_or-append_right, get_or-take, get_or-drop, ext_get_or}
 use Rattle.std.proofs.lemmas.Bool.{cases_lt}
 
-module _ (old seg : List Bool) (at end : ℕ) (room : at ≤ length old) (size : end ≡ at + length seg) where
+module _ (old seg : List Bool) (at end : ℕ) (width : at ≤ length old) (size : end ≡ at + length seg) where
   front_length : length (take at old ++ seg) ≡ end
-  front_length = omega (arith, length-append (take at old) seg, length-take-le at old room)
+  front_length = omega (arith, length-append (take at old) seg, length-take-le at old width)
 
   pub patch_before : (k : ℕ) → k < at → get_or (take at old ++ seg ++ drop end old) k false ≡ get_or old k false
   patch_before k h =
       get_or_append_left (take at old ++ seg) (drop end old) false k (omega (arith, front_length))
-      ∙ get_or_append_left (take at old) seg false k (omega (arith, length-take-le at old room)) ∙ get_or-take at old k false h
+      ∙ get_or_append_left (take at old) seg false k (omega (arith, length-take-le at old width)) ∙ get_or-take at old k false h
 
   pub patch_inside : (j : ℕ) → j < length seg → get_or (take at old ++ seg ++ drop end old) (at + j) false ≡ get_or seg j false
   patch_inside j h =
       let here : at + j - at ≡ j = omega arith in
       get_or_append_left (take at old ++ seg) (drop end old) false (at + j) (omega (arith, front_length))
-      ∙ get_or-append_right (take at old) seg at (at + j) false (length-take-le at old room) (omega arith) ∙ ap (λ i. get_or seg i false) here
+      ∙ get_or-append_right (take at old) seg at (at + j) false (length-take-le at old width) (omega arith) ∙ ap (λ i. get_or seg i false) here
 
   pub patch_past : (k : ℕ) → end ≤ k → get_or (take at old ++ seg ++ drop end old) k false ≡ get_or old k false
   patch_past k h =

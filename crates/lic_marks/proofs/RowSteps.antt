@@ -112,9 +112,9 @@ Leaves-one passes after entry row at x d h e = record { answer = e ∙ sym (firs
 
 -- ---- a row in which a range was written anew
 
-module _ (old seg : List Bool) (at k : ℕ) (room : at ≤ length old) (end : k ≡ at + length seg) where
+module _ (old seg : List Bool) (at k : ℕ) (width : at ≤ length old) (end : k ≡ at + length seg) where
   front_length : length (take at old ++ seg) ≡ k
-  front_length = omega (arith, length-append (take at old) seg, length-take-le at old room)
+  front_length = omega (arith, length-append (take at old) seg, length-take-le at old width)
 
   take-patch : take k (take at old ++ seg ++ drop k old) ≡ take at old ++ seg
   take-patch = take_at (take at old ++ seg) (drop k old) k front_length
@@ -142,7 +142,7 @@ Shifts-none after entry c row at = record { walk = Leaves-none after entry row a
 
 -- what the first walk wrote lies before the second one's place
 module _ (a : Core) (after entry : Bool) (c : ℕ) (old : List Bool) (at : ℕ) (mid : List Bool) (x : Bool)
-    (room : at + weight a ≤ length old) (p : Shifts a after entry c old at mid x) where
+    (width : at + weight a ≤ length old) (p : Shifts a after entry c old at mid x) where
   written : List Bool
   written = flags_of a (shift a after entry (marks_of a (drop at old)) c)
 
@@ -166,17 +166,17 @@ module _ (a : Core) (after entry : Bool) (c : ℕ) (old : List Bool) (at : ℕ) 
 
 -- two walks in a row, as a cat or an alt has them
 module _ (a b : Core) (after entry : Bool) (c : ℕ) (old : List Bool) (at : ℕ) (mid : List Bool) (x : Bool) (new : List Bool) (y : Bool)
-    (room : at + weight a ≤ length old) (p : Shifts a after entry c old at mid x) where
+    (width : at + weight a ≤ length old) (p : Shifts a after entry c old at mid x) where
   rest : at + weight a + weight b ≡ at + (weight a + weight b)
   rest = omega arith
 
   pub Shifts-cat : Shifts b after x c mid (at + weight a) new y → Shifts (cat a b) after entry c old at new y
   Shifts-cat q = record {
-    walk = Leaves-cat a b after entry old at x y p.walk (Leaves-past a after entry c old at mid x room p b x y q.walk);
+    walk = Leaves-cat a b after entry old at x y p.walk (Leaves-past a after entry c old at mid x width p b x y q.walk);
     row = q.row ∙ rw (
-      Shifts-take a after entry c old at mid x room p,
-      Shifts-drop a after entry c old at mid x room p,
-      Shifts-drop-more a after entry c old at mid x room p (weight b) (at + weight a + weight b) refl,
+      Shifts-take a after entry c old at mid x width p,
+      Shifts-drop a after entry c old at mid x width p,
+      Shifts-drop-more a after entry c old at mid x width p (weight b) (at + weight a + weight b) refl,
       drop-drop,
       ← p.walk.answer,
       ← rest,
@@ -186,11 +186,11 @@ module _ (a b : Core) (after entry : Bool) (c : ℕ) (old : List Bool) (at : ℕ
 
   pub Shifts-alt : Shifts b after entry c mid (at + weight a) new y → Shifts (alt a b) after entry c old at new (x || y)
   Shifts-alt q = record {
-    walk = Leaves-alt a b after entry old at x y p.walk (Leaves-past a after entry c old at mid x room p b entry y q.walk);
+    walk = Leaves-alt a b after entry old at x y p.walk (Leaves-past a after entry c old at mid x width p b entry y q.walk);
     row = q.row ∙ rw (
-      Shifts-take a after entry c old at mid x room p,
-      Shifts-drop a after entry c old at mid x room p,
-      Shifts-drop-more a after entry c old at mid x room p (weight b) (at + weight a + weight b) refl,
+      Shifts-take a after entry c old at mid x width p,
+      Shifts-drop a after entry c old at mid x width p,
+      Shifts-drop-more a after entry c old at mid x width p (weight b) (at + weight a + weight b) refl,
       drop-drop,
       ← rest,
     ) (ap (λ s. s ++ drop (at + weight a + weight b) old) (append_assoc (take at old)
@@ -204,10 +204,10 @@ none_more n = omega arith
 pub Shifts-front : (a b : Core) (after entry : Bool) (c : ℕ) (old : List Bool) (at : ℕ) (mid : List Bool) (x : Bool) (new : List Bool) (y : Bool) →
     at + weight a ≤ length old → Shifts a after entry c old at mid x → Shifts b after x c mid (at + weight a) new y →
     Shifts (alt empty (cat a b)) after entry c old at new (entry || y)
-Shifts-front a b after entry c old at mid x new y room p q =
-    let rest : Shifts (cat a b) after entry c old at new y = Shifts-cat a b after entry c old at mid x new y room p q in
+Shifts-front a b after entry c old at mid x new y width p q =
+    let rest : Shifts (cat a b) after entry c old at new y = Shifts-cat a b after entry c old at mid x new y width p q in
     record {
-      walk = Leaves-front a b after entry old at x y p.walk (Leaves-past a after entry c old at mid x room p b x y q.walk);
+      walk = Leaves-front a b after entry old at x y p.walk (Leaves-past a after entry c old at mid x width p b x y q.walk);
       row = rest.row ∙ ap (λ w. take at old
           ++ flags_of (cat a b) (shift (cat a b) after entry (marks_of (cat a b) (drop at old)) c)
           ++ drop (at + w) old) (none_more (weight a + weight b));
@@ -248,7 +248,7 @@ Shifts-clear r after c row at tail whole clear =
 -- the same of a range of the row that is clear
 pub Shifts-clear_slice : (r : Core) (after : Bool) (c : ℕ) (row : List Bool) (at n : ℕ) → at + weight r ≤ length row → n ≡ weight r →
     slice_range row at (at + n) ≡ replicate (length (slice_range row at (at + n))) false → Shifts r after false c row at row false
-Shifts-clear_slice r after c row at n room size clear =
+Shifts-clear_slice r after c row at n width size clear =
     let split = drop_split row at (at + n) (omega arith) in
     let few : length (slice_range row at (at + n)) ≡ weight r =
     omega (arith, ap length split, length-append (slice_range row at (at + n)) (drop (at + n) row), length-drop at row, length-drop (at + n) row) in

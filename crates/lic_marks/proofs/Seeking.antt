@@ -5,7 +5,7 @@ use Rattle.lic_words.specs.Letters.{is_word}
 use Rattle.lic_words.specs.Expressions.{Expression}
 use Rattle.lic_words.specs.Spelling.{Gap, free, gap_of, gapped, gapped_from, last_letter, last_of}
 use Rattle.lic_words.proofs.Sequences.{gapped_from-blank, gapped_from-letter, last_letter-blank, last_letter-letter, last_of-snoc}
-use Rattle.lic_words.proofs.Spellings.{gap-behind_blank}
+use Rattle.lic_words.proofs.Spellings.{gap-after_blank}
 use Rattle.lic_marks.specs.Cores.{Core, HasWordsOf, WordsOf}
 use Rattle.lic_marks.specs.Representing.{After, AfterAny, each_with}
 use Rattle.lic_marks.specs.Unanchored.{DescribesEnd, ends_of, AllEndWith}
@@ -52,7 +52,7 @@ module _ (last : ℕ) (t : List ℕ) (p : Gap × ℕ) (rest : List (Gap × ℕ))
   -- the token alone begins with a free gap
   pub gapped-token : (free, p.1) ∷ rest ≡ gapped (t ∷ [])
   gapped-token =
-      ap (λ g. (g, p.1) ∷ rest) (sym (gap-behind_blank p.1)) ∙ sym (first_letter last blank t p rest e).1
+      ap (λ g. (g, p.1) ∷ rest) (sym (gap-after_blank p.1)) ∙ sym (first_letter last blank t p rest e).1
       ∙ ap (gapped_from blank true) (sym (append-nil t))
 
   -- its last letter is its own

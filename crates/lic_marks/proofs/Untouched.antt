@@ -14,21 +14,21 @@ use Rattle.lic_marks.proofs.ClearRows.{all_clear}
 -- a range of clear flags
 slice_clear : (row : List Bool) (at end : ℕ) → end ≤ length row → ((k : ℕ) → at ≤ k → k < end → get_or row k false ≡ false) →
     slice_range row at end ≡ replicate (length (slice_range row at end)) false
-slice_clear row at end room clear =
+slice_clear row at end width clear =
     all_clear (slice_range row at end) (λ k d inside.
-    let near : k < end - at = omega (arith, inside, length-between row at end room) in
+    let near : k < end - at = omega (arith, inside, length-between row at end width) in
     get_or-between row at end k d (omega arith) ∙ get_or_default row (at + k) d false (omega arith) ∙ clear (at + k) (omega arith) (omega arith))
 
-module _ (r : Core) (after : Bool) (row : List Bool) (at : ℕ) (room : at + weight r ≤ length row)
+module _ (r : Core) (after : Bool) (row : List Bool) (at : ℕ) (width : at + weight r ≤ length row)
     (clear : (k : ℕ) → at ≤ k → k < at + weight r → get_or row k false ≡ false) where
   pub Leaves-clear : Leaves r after false row at false
   Leaves-clear =
-      let few : length (slice_range row at (at + weight r)) ≡ weight r = omega (arith, length-between row at (at + weight r) room) in
+      let few : length (slice_range row at (at + weight r)) ≡ weight r = omega (arith, length-between row at (at + weight r) width) in
       let here : drop at row ≡ replicate (weight r) false ++ drop (at + weight r) row =
       drop_split row at (at + weight r) (omega arith)
-      ∙ ap (λ s. s ++ drop (at + weight r) row) (slice_clear row at (at + weight r) room clear ∙ ap (λ k. replicate k false) few) in
+      ∙ ap (λ s. s ++ drop (at + weight r) row) (slice_clear row at (at + weight r) width clear ∙ ap (λ k. replicate k false) few) in
       let none : marks_of r (drop at row) ≡ no_marks r = ap (marks_of r) here ∙ marks_of-clear r (drop (at + weight r) row) in
       record { answer = rw none (sym (can_leave-no_marks r after)) }
 
   pub Shifts-untouched : (c : ℕ) → Shifts r after false c row at row false
-  Shifts-untouched c = Shifts-clear_slice r after c row at (weight r) room refl (slice_clear row at (at + weight r) room clear)
+  Shifts-untouched c = Shifts-clear_slice r after c row at (weight r) width refl (slice_clear row at (at + weight r) width clear)

@@ -25,9 +25,9 @@ abbrev pub letter_cores : List ℕ → List Core
 letter_cores text = map (λ d. one (λ c. c == d)) text
 
 -- that many of these in a row
-abbrev pub so_many : Times → Core → Core
-so_many (Bounded needed more) a = cat (copies needed a) (up_to more a)
-so_many (Unbounded before) a = cat (copies before a) (plus a)
+abbrev pub times_over : Times → Core → Core
+times_over (Bounded needed more) a = cat (copies needed a) (up_to more a)
+times_over (Unbounded before) a = cat (copies before a) (plus a)
 
 -- one node, with the core of each child in its place
 abbrev pub node_core : Node-F Core → Core
@@ -37,7 +37,7 @@ node_core (Node-F.Copies test count) = cat_all (replicate count (one (passes tes
 node_core (Node-F.UpTo test count) = any_prefix (replicate count (one (passes test)))
 node_core (Node-F.Cat children weight) = cat_all children.items
 node_core (Node-F.Alt children weight) = alt_all children.items
-node_core (Node-F.Repeat child times weight) = so_many times child.value
+node_core (Node-F.Repeat child times weight) = times_over times child.value
 node_core (Node-F.Plus child weight) = plus child.value
 node_core (Node-F.Tidy child weight is_nullable) = tidy child.value
 
@@ -65,7 +65,7 @@ node_is_measured (Node-F.Cat children kept) =
 node_is_measured (Node-F.Alt children kept) =
     are_right children.items && (kept == weight (alt_all (cores_of children.items)))
 node_is_measured (Node-F.Repeat child times kept) =
-    child.value.1 && (kept == weight (so_many times (core_of child.value.0)))
+    child.value.1 && (kept == weight (times_over times (core_of child.value.0)))
 node_is_measured (Node-F.Plus child kept) = child.value.1 && (kept == weight (core_of child.value.0))
 node_is_measured (Node-F.Tidy child kept has_empty) =
     child.value.1 && (kept == weight (core_of child.value.0)) && beq has_empty (is_nullable (core_of child.value.0))

@@ -5,7 +5,7 @@ ghost use Rattle.std.specs.List.{list_all};
 ghost use Rattle.lic_marks.specs.Cores.{one, cat_all, alt_all, any_prefix, plus, tidy};
 ghost use Rattle.lic_marks.specs.Marks.{is_nullable};
 ghost use Rattle.lic_marks.specs.Rows.{weight};
-ghost use Rattle.lic_marks.specs.Nodes.{core_of, is_measured, letter_cores, passes, so_many, IsBuilt};
+ghost use Rattle.lic_marks.specs.Nodes.{core_of, is_measured, letter_cores, passes, times_over, IsBuilt};
 
 use crate::node::{Node, Times};
 use crate::test::Test;
@@ -61,8 +61,8 @@ pub fn alt(children: Vec<Node>) -> Option<Node>
 /// The child's words, `times` in a row, or `None` if they weigh more than the greatest `usize`.
 pub fn repeat(child: Box<Node>, times: Times) -> Option<Node>
     requires { IsTrue (is_measured child.value) }
-    ensures built { IfSome result (IsBuilt (so_many times (core_of child.value))) }
-    ensures heavy { IfNone result (usize.MAX < weight (so_many times (core_of child.value))) }
+    ensures built { IfSome result (IsBuilt (times_over times (core_of child.value))) }
+    ensures heavy { IfNone result (usize.MAX < weight (times_over times (core_of child.value))) }
 {
     let (needed, more) = times.counts();
     let one = child.weight();

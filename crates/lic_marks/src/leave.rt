@@ -5,7 +5,7 @@ ghost use Rattle.std.specs.List.{list_all};
 ghost use Rattle.lic_marks.specs.Cores.{one, cat_all, alt_all, any_prefix, copies, up_to, tidy};
 ghost use Rattle.lic_marks.specs.Marks.{is_nullable};
 ghost use Rattle.lic_marks.specs.Rows.{weight, Leaves};
-ghost use Rattle.lic_marks.specs.Nodes.{core_of, is_measured, letter_cores, so_many};
+ghost use Rattle.lic_marks.specs.Nodes.{core_of, is_measured, letter_cores, times_over};
 
 use crate::node::{Node, Times};
 use lic_rows::Bits;
@@ -18,8 +18,8 @@ pub fn leaves(node: &Node, row: &Bits, at: usize, after: bool, entry: bool) -> b
     requires within { at + weight (core_of node.now) ≤ length row.now }
     ensures { Leaves (core_of node.now) after entry row.now at result }
 {
-    let room = row.len();
-    prove!(at <= room);
+    let width = row.len();
+    prove!(at <= width);
     let end = at + node.weight();
     // where nothing is marked and none begins, none can leave
     if !entry && !row.is_any_set(at, end) {
@@ -69,8 +69,8 @@ pub fn leaves_letters(text: &[char], row: &Bits, at: usize, after: bool, entry: 
     requires { at + weight (cat_all (letter_cores text.now)) ≤ length row.now }
     ensures { Leaves (cat_all (letter_cores text.now)) after entry row.now at result }
 {
-    let room = row.len();
-    prove!(at <= room);
+    let width = row.len();
+    prove!(at <= width);
     if text.is_empty() {
         entry
     } else {
@@ -84,8 +84,8 @@ pub fn leaves_copies(count: usize, row: &Bits, at: usize, after: bool, entry: bo
     ensures { (passes : ℕ → Bool)
         → Leaves (cat_all (replicate count (one passes))) after entry row.now at result }
 {
-    let room = row.len();
-    prove!(at <= room);
+    let width = row.len();
+    prove!(at <= width);
     if count == 0 {
         entry
     } else {
@@ -99,8 +99,8 @@ pub fn leaves_up_to(count: usize, row: &Bits, at: usize, after: bool, entry: boo
     ensures { (passes : ℕ → Bool)
         → Leaves (any_prefix (replicate count (one passes))) after entry row.now at result }
 {
-    let room = row.len();
-    prove!(at <= room);
+    let width = row.len();
+    prove!(at <= width);
     let is_marked = row.is_any_set(at, at + count);
     entry | is_marked
 }
@@ -116,11 +116,11 @@ fn leaves_repeat(
     entry: bool,
 ) -> bool
     requires measured { IsTrue (is_measured child.now) }
-    requires within { at + weight (so_many times (core_of child.now)) ≤ length row.now }
-    ensures { Leaves (so_many times (core_of child.now)) after entry row.now at result }
+    requires within { at + weight (times_over times (core_of child.now)) ≤ length row.now }
+    ensures { Leaves (times_over times (core_of child.now)) after entry row.now at result }
 {
-    let room = row.len();
-    prove!(at <= room);
+    let width = row.len();
+    prove!(at <= width);
     match times {
         Times::Bounded { needed, more } => {
             let (past, _) = leaves_copies_of(child, needed, row, at, after, entry);
@@ -152,8 +152,8 @@ fn leaves_copies_of(
     ensures all { Leaves (copies count (core_of child.now)) after entry row.now at result.0 }
     ensures any { Leaves (up_to count (core_of child.now)) after entry row.now at result.1 }
 {
-    let room = row.len();
-    prove!(at <= room);
+    let width = row.len();
+    prove!(at <= width);
     let weight = child.weight();
     let mut place = at;
     let mut flag = entry;
@@ -173,8 +173,8 @@ fn leaves_row(children: &[Node], row: &Bits, at: usize, after: bool, entry: bool
     requires within { at + weight (cat_all (map core_of children.now)) ≤ length row.now }
     ensures { Leaves (cat_all (map core_of children.now)) after entry row.now at result }
 {
-    let room = row.len();
-    prove!(at <= room);
+    let width = row.len();
+    prove!(at <= width);
     let mut place = at;
     let mut flag = entry;
     for child in children {
@@ -190,8 +190,8 @@ fn leaves_any(children: &[Node], row: &Bits, at: usize, after: bool, entry: bool
     requires within { at + weight (alt_all (map core_of children.now)) ≤ length row.now }
     ensures { Leaves (alt_all (map core_of children.now)) after entry row.now at result }
 {
-    let room = row.len();
-    prove!(at <= room);
+    let width = row.len();
+    prove!(at <= width);
     let mut place = at;
     let mut found = false;
     for child in children {

@@ -18,8 +18,8 @@ pub fn move_letters(text: &[char], row: &mut Bits, at: usize, entry: bool, lette
     ensures moves { Moves (λ j. letter == slice_index text.now j) entry row.old at (length text.now) row.new }
     ensures len { length row.new ≡ length row.old }
 {
-    let room = row.len();
-    prove!(at <= room);
+    let width = row.len();
+    prove!(at <= width);
     let end = at + text.len();
     let mut to = end;
     while at < to {
@@ -44,8 +44,8 @@ fn advance(text: &[char], row: &mut Bits, at: usize, place: usize, letter: char)
     ensures moves { Advances (λ j. letter == slice_index text.now j) row.old at (length text.now) place row.new }
     ensures len { length row.new ≡ length row.old }
 {
-    let room = row.len();
-    prove!(place < room);
+    let width = row.len();
+    prove!(place < width);
     row.put(place, false);
     let next = place + 1;
     if next < at + text.len() {
@@ -60,8 +60,8 @@ pub fn move_copies(count: usize, is_passed: bool, row: &mut Bits, at: usize, ent
     ensures moves { Moves (λ j. is_passed) entry row.old at count row.new }
     ensures len { length row.new ≡ length row.old }
 {
-    let room = row.len();
-    prove!(at <= room);
+    let width = row.len();
+    prove!(at <= width);
     let end = at + count;
     if at < end {
         if is_passed {

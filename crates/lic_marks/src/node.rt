@@ -16,11 +16,11 @@ pub enum Times {
 impl Times {
     ghost use Rattle.lic_marks.specs.Cores.{Core};
     ghost use Rattle.lic_marks.specs.Rows.{weight};
-    ghost use Rattle.lic_marks.specs.Nodes.{so_many};
+    ghost use Rattle.lic_marks.specs.Nodes.{times_over};
 
     /// How many of the words are needed at first, and how many places for one word each there are after them.
     pub fn counts(self) -> (usize, usize)
-        ensures { (r : Core) → weight (so_many self r) ≡ result.0 * weight r + result.1 * weight r }
+        ensures { (r : Core) → weight (times_over self r) ≡ result.0 * weight r + result.1 * weight r }
     {
         match self {
             Times::Bounded { needed, more } => (needed, more),

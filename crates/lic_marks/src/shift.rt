@@ -5,7 +5,7 @@ ghost use Rattle.std.specs.List.{list_all};
 ghost use Rattle.lic_marks.specs.Cores.{one, cat_all, alt_all, any_prefix, copies, up_to, plus, tidy};
 ghost use Rattle.lic_marks.specs.Marks.{is_nullable};
 ghost use Rattle.lic_marks.specs.Rows.{weight, Shifts};
-ghost use Rattle.lic_marks.specs.Nodes.{core_of, is_measured, letter_cores, passes, so_many};
+ghost use Rattle.lic_marks.specs.Nodes.{core_of, is_measured, letter_cores, passes, times_over};
 
 use crate::leave::{leaves, leaves_copies, leaves_letters, leaves_up_to};
 use crate::moves::{Reading, move_copies, move_letters};
@@ -22,8 +22,8 @@ pub fn shift(node: &Node, row: &mut Bits, at: usize, entry: bool, reading: Readi
     ensures shifts { Shifts (core_of node.now) reading.after entry reading.letter row.old at row.new result }
     ensures len { length row.new ≡ length row.old }
 {
-    let room = row.len();
-    prove!(at <= room);
+    let width = row.len();
+    prove!(at <= width);
     let end = at + node.weight();
     // where no position is active and no word begins, none will be
     if !entry && !row.is_any_set(at, end) {
@@ -126,8 +126,8 @@ fn shift_letters_of(test: &Test, row: &mut Bits, at: usize, entry: bool, reading
         (one (passes test.now))) reading.after entry reading.letter row.old at row.new result }
     ensures len { length row.new ≡ length row.old }
 {
-    let room = row.len();
-    prove!(at < room);
+    let width = row.len();
+    prove!(at < width);
     let again = row.get(at);
     let is_passed = test.passes(reading.letter);
     row.put(at, (entry | again) & is_passed);
@@ -145,13 +145,13 @@ fn shift_repeat(
     reading: Reading,
 ) -> bool
     requires measured { IsTrue (is_measured child.now) }
-    requires within { at + weight (so_many times (core_of child.now)) ≤ length row.old }
-    ensures shifts { Shifts (so_many times
+    requires within { at + weight (times_over times (core_of child.now)) ≤ length row.old }
+    ensures shifts { Shifts (times_over times
         (core_of child.now)) reading.after entry reading.letter row.old at row.new result }
     ensures len { length row.new ≡ length row.old }
 {
-    let room = row.len();
-    prove!(at <= room);
+    let width = row.len();
+    prove!(at <= width);
     match times {
         Times::Bounded { needed, more } => {
             let (past, _) = shift_copies_of(child, needed, row, at, entry, reading);
@@ -186,8 +186,8 @@ fn shift_copies_of(
         (core_of child.now)) reading.after entry reading.letter row.old at row.new result.1 }
     ensures len { length row.new ≡ length row.old }
 {
-    let room = row.len();
-    prove!(at <= room);
+    let width = row.len();
+    prove!(at <= width);
     let weight = child.weight();
     let mut place = at;
     let mut flag = entry;
@@ -209,8 +209,8 @@ fn shift_row(children: &[Node], row: &mut Bits, at: usize, entry: bool, reading:
         (map core_of children.now)) reading.after entry reading.letter row.old at row.new result }
     ensures len { length row.new ≡ length row.old }
 {
-    let room = row.len();
-    prove!(at <= room);
+    let width = row.len();
+    prove!(at <= width);
     let mut place = at;
     let mut flag = entry;
     for child in children {
@@ -228,8 +228,8 @@ fn shift_any(children: &[Node], row: &mut Bits, at: usize, entry: bool, reading:
         (map core_of children.now)) reading.after entry reading.letter row.old at row.new result }
     ensures len { length row.new ≡ length row.old }
 {
-    let room = row.len();
-    prove!(at <= room);
+    let width = row.len();
+    prove!(at <= width);
     let mut place = at;
     let mut found = false;
     for child in children {
@@ -259,8 +259,8 @@ fn shift_tidy(
 {
     let enters_empty = entry & has_empty;
     if reading.letter == ' ' && reading.after {
-        let room = row.len();
-        prove!(at <= room);
+        let width = row.len();
+        prove!(at <= width);
         let end = at + child.weight();
         row.clear(at, end);
         return enters_empty;

@@ -50,5 +50,5 @@ module _ (so_far : Bool) (piece front before : List Located) (x : Located) (is :
   pub line_has_text : eqb x.1 new_line ≡ false → is_space x.1 ≡ false → false ≡ at_line_start so_far piece
   line_has_text goes dark_there = sym (dark (eqb x.1 new_line) (at_line_start so_far before) (is_space x.1) goes dark_there) ∙ split
 
-  pub line_goes_on : eqb x.1 new_line ≡ false → is_space x.1 ≡ true → at_line_start so_far before ≡ at_line_start so_far piece
-  line_goes_on goes space = sym (light (eqb x.1 new_line) (at_line_start so_far before) (is_space x.1) goes space) ∙ split
+  pub line_continues : eqb x.1 new_line ≡ false → is_space x.1 ≡ true → at_line_start so_far before ≡ at_line_start so_far piece
+  line_continues goes space = sym (light (eqb x.1 new_line) (at_line_start so_far before) (is_space x.1) goes space) ∙ split

@@ -19,7 +19,7 @@ use Rattle.lic_words.specs.Describing.{IsDescribed}
 use Rattle.lic_words.specs.Expressions.{Language}
 use Rattle.lic_words.specs.Spelling.{Spells}
 use Rattle.lic_words.proofs.Languages.{letters_complete}
-use Rattle.lic_words.proofs.Spellings.{Spells-before, Spells-behind}
+use Rattle.lic_words.proofs.Spellings.{Spells-before, Spells-past}
 use Rattle.lic_markup.specs.declared.part.Part.TheVariants.{Text}
 use Rattle.lic_markup.specs.Meaning.{part_words, piece_texts}
 use Rattle.lic_markup.proofs.MeaningLemmas.{part_words-Text}
@@ -54,7 +54,7 @@ module _ (rules : LineRules) (words : List Phrase) (at_line_start : Bool) (befor
   with_before false w ts s = s
 
   with_following : (b : Bool) (w : List ℕ) (ts : List (List ℕ)) → Spells w ts → Spells (w ++ blank_if b) ts
-  with_following true w ts s = (Spells-behind w ts).0 s
+  with_following true w ts s = (Spells-past w ts).0 s
   with_following false w ts s = subst (λ x. Spells x ts) (sym (append-nil w)) s
 
   chars-edge : (b : Bool) (text : List ℕ) → IsUtf8 text → chars (text ++ blank_if b) ≡ chars text ++ blank_if b

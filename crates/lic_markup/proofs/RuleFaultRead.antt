@@ -12,7 +12,7 @@ use Rattle.lic_markup.specs.Faults.{fault_at, map_ok, ◌>>=◌}
 use Rattle.lic_markup.specs.Rules.{Values, no_values, field_of, has_value, with_value, one_more, name_at, quoted_at, plain_at, value_at, field_at, fields_at, Rule, rule_of, rule_at}
 use Rattle.lic_markup.specs.Markup.{UpTo, IsTag, ends_field, ends_name, ends_quote}
 use Rattle.lic_markup.specs.RuleFaults.{Nowhere, is_second, AreSoundFields, none, empty, further as one_further, IsOpenValue, quoted, plain, IsFieldFault, open_name, no_equals, twice, open_value, IsFaultAfter, not_closed, in_field, missing, IsRuleFault, at_fault}
-use Rattle.lic_markup.proofs.RuleLemmas.{read, name-refused, name-goes_on, name-open, quoted-goes_on, quoted-open, plain-goes_on, plain-open}
+use Rattle.lic_markup.proofs.RuleLemmas.{read, name-refused, name-continues, name-open, quoted-continues, quoted-open, plain-continues, plain-open}
 use Rattle.lic_markup.proofs.FieldLemmas.{fields_of, fields-end, fields_turn, fields_fail, fields-refused, fields-open}
 use Rattle.lic_markup.proofs.Spelled.{got, not_here, past, ends_from, value_by, value_is, name_read, neither, read_was}
 use Rattle.lic_markup.proofs.RuleSpelled.{value_then, meaning, field_is, none_read, some_read, not_two_signs, rule_then, rule_is}
@@ -25,7 +25,7 @@ module _ (rule start : ℕ) where
   name_open [] n = name-open rule start [] refl
   name_open (x ∷ cs) n =
       let no = neither (begins_with equals (x ∷ cs)) (ends_field (x ∷ cs)) (nowhere-here ends_name x cs n) in
-      name-goes_on rule start (x ∷ cs) x cs refl no.0 no.1 ∙ ap (map_ok (one_more x)) (name_open cs (nowhere-past ends_name x cs n))
+      name-continues rule start (x ∷ cs) x cs refl no.0 no.1 ∙ ap (map_ok (one_more x)) (name_open cs (nowhere-past ends_name x cs n))
 
   name_unequal : (front cs rest : List Located) → UpTo ends_name cs front rest → begins_with equals rest ≡ false
       → name_at rule start cs ≡ Err (fault_at start NoEquals)
@@ -37,7 +37,7 @@ module _ (rule start : ℕ) where
       let l : List Located = front ++ rest in
       let no = neither (begins_with equals (x ∷ l)) (ends_field (x ∷ l)) (not_here ends_name x cs front rest up) in
       ap (name_at rule start) up.parts
-      ∙ name-goes_on rule start (x ∷ l) x l refl no.0 no.1
+      ∙ name-continues rule start (x ∷ l) x l refl no.0 no.1
       ∙ ap (map_ok (one_more x)) (name_unequal front l rest (past ends_name x cs front rest up) unequal)
 
 -- ---- values
@@ -46,13 +46,13 @@ module _ (rule : ℕ) where
   quoted_open : (cs : List Located) → Nowhere ends_quote cs → quoted_at rule cs ≡ Err (fault_at rule NotClosed)
   quoted_open [] n = quoted-open rule [] refl
   quoted_open (x ∷ cs) n =
-      quoted-goes_on rule (x ∷ cs) x cs refl (nowhere-here ends_quote x cs n)
+      quoted-continues rule (x ∷ cs) x cs refl (nowhere-here ends_quote x cs n)
       ∙ ap (map_ok (one_more x)) (quoted_open cs (nowhere-past ends_quote x cs n))
 
   plain_open : (escaped : Bool) (cs : List Located) → Nowhere (ends_from rule escaped) cs → plain_at rule escaped cs ≡ Err (fault_at rule NotClosed)
   plain_open escaped [] n = plain-open rule escaped [] refl
   plain_open escaped (x ∷ cs) n =
-      plain-goes_on rule escaped (x ∷ cs) x cs refl (nowhere-here (ends_from rule escaped) x cs n)
+      plain-continues rule escaped (x ∷ cs) x cs refl (nowhere-here (ends_from rule escaped) x cs n)
       ∙ ap (map_ok (one_more x)) (plain_open (eqb x.1 backslash) cs (nowhere-past (ends_from rule escaped) x cs n))
 
   value_open : {cs : List Located} → IsOpenValue cs → value_at rule cs ≡ Err (fault_at rule NotClosed)
@@ -121,14 +121,14 @@ module _ (rule : ℕ) (tag : Tag) where
             (fields_of rule tag was.0 (x ∷ rest)) refl refl (not_two_signs rule tag x rest is) (eq-eqb x.1 semicolon is)
             (none_read rule tag was.0 (trim_start rest) ends) refl),
       )
-  sound_read start (one_further {x = x} {rest = rest} {more = more} {value = value} {name = name} {names = names} sound is goes_on spelled second) =
+  sound_read start (one_further {x = x} {rest = rest} {more = more} {value = value} {name = name} {names = names} sound is continues spelled second) =
       let was = sound_read start sound in
       let now : Values = with_value (field_of tag name) value was.0 in (
         now,
         held_on was.0 name value names tag was.1,
         was.2 ∙ sym (fields_turn rule tag was.0 x rest (x ∷ rest) (trim_start rest) now more
             (fields_of rule tag was.0 (x ∷ rest)) refl refl (not_two_signs rule tag x rest is) (eq-eqb x.1 semicolon is)
-            (some_read rule tag was.0 (trim_start rest) more value name goes_on spelled
+            (some_read rule tag was.0 (trim_start rest) more value name continues spelled
             (second_is was.0 name names tag was.1 ∙ second)) refl),
       )
 
@@ -162,7 +162,7 @@ module _ (offset : ℕ) (tag : Tag) (values : Values) (names : List (List ℕ)) 
   field_here : (x : Located) (cs : List Located) {e : MarkupFault} → x.1 ≡ semicolon → (front : List Located)
       → front ≡ trim_start cs → ends_field front ≡ false → IsFieldFault offset tag names front e
       → fields_of offset tag values (x ∷ cs) ≡ Err e
-  field_here x cs {e = e} is [] at goes_on fault =
+  field_here x cs {e = e} is [] at continues fault =
       let only : fault_at offset NotClosed ≡ e =
       same_fault {A = Values × ℕ} _ e (sym (none_there values) ∙ field_refused offset tag values names held [] fault) in
       sym (fields_turn offset tag values x cs (x ∷ cs) [] values [] (fields_of offset tag values (x ∷ cs)) refl at
@@ -175,10 +175,10 @@ module _ (offset : ℕ) (tag : Tag) (values : Values) (names : List (List ℕ)) 
           ∙ ap (λ (r : Result (List Located × ℕ) MarkupFault). r >>= λ name.
           value_then offset 0 tag values [] (has_value (meaning offset 0 tag values name) values)
           (meaning offset 0 tag values name) name) (name-open offset 0 [] refl)
-  field_here x cs {e = e} is (z ∷ zs) at goes_on fault =
+  field_here x cs {e = e} is (z ∷ zs) at continues fault =
       fields_fail offset tag values x cs (x ∷ cs) (z ∷ zs) e refl at (not_two_signs offset tag x cs is)
       (eq-eqb x.1 semicolon is)
-      (ap (λ b. read (z ∷ zs) (cond b (Ok (values, 0)) (field_at offset z.0 tag values (z ∷ zs)))) goes_on
+      (ap (λ b. read (z ∷ zs) (cond b (Ok (values, 0)) (field_at offset z.0 tag values (z ∷ zs)))) continues
       ∙ ap (read (z ∷ zs)) (field_refused offset tag values names held (z ∷ zs) fault))
 
   missing_here : (cs : List Located) → begins_with_two greater cs ≡ true
@@ -192,7 +192,7 @@ module _ (offset : ℕ) (tag : Tag) (values : Values) (names : List (List ℕ)) 
   fault_refused : {cs : List Located} {e : MarkupFault} → IsFaultAfter offset tag names cs e
       → made offset tag (fields_of offset tag values cs) ≡ Err e
   fault_refused (not_closed {cs = cs} h) = ap (made offset tag) (not_closed_here cs h)
-  fault_refused (in_field {x = x} {cs = cs} is goes_on fault) = ap (made offset tag) (field_here x cs is (trim_start cs) refl goes_on fault)
+  fault_refused (in_field {x = x} {cs = cs} is continues fault) = ap (made offset tag) (field_here x cs is (trim_start cs) refl continues fault)
   fault_refused (missing {cs = cs} name ends some absent) = missing_here cs ends (lacks offset names tag values name held some absent)
 
 -- a rule at fault, and where it is refused

@@ -16,7 +16,7 @@ use Rattle.lic_markup.specs.Faults.{fault_at, map_ok, ◌>>=◌}
 use Rattle.lic_markup.specs.Rules.{Values, no_values, field_of, has_value, with_value, at_end, ends_quoted, ends_plain, one_more, name_at, quoted_at, plain_at, value_at, field_at, field_or_none, fields_at, variable, begin, finish, complete, rule_of, rule_at}
 use Rattle.lic_markup.specs.Markup.{UpTo, IsTag, IsField, ends_field, ends_name, ends_quote}
 use Rattle.lic_markup.specs.RuleFaults.{Nowhere, needed, is_among, is_second, AreSoundFields, none, empty, further as one_further, IsOpenValue, quoted, plain, IsFieldFault, open_name, no_equals, twice, open_value, IsFaultAfter, not_closed, in_field, missing, IsRuleFault, at_fault}
-use Rattle.lic_markup.proofs.RuleLemmas.{read, name-ends, name-refused, name-goes_on, name-open, quoted-ends, quoted-goes_on, quoted-open, plain-ends, plain-goes_on, plain-open}
+use Rattle.lic_markup.proofs.RuleLemmas.{read, name-ends, name-refused, name-continues, name-open, quoted-ends, quoted-continues, quoted-open, plain-ends, plain-continues, plain-open}
 use Rattle.lic_markup.proofs.FieldLemmas.{read-shorter, fields_of, fields-end, fields_turn, fields_fail, fields-refused, fields-open, trim_start-shorter}
 use Rattle.lic_markup.proofs.Spelled.{empty_no, head_same, tail_same, here_at, later, ends_from, value_by, value_is, name_spelled}
 use Rattle.lic_markup.proofs.RuleSpelled.{value_then, meaning, field_is, field_spelled, other_word, meant_by, none_read, rule_then, rule_is}
@@ -42,27 +42,27 @@ view_failed f (Err d) e h = ap (λ (d : MarkupFault). failed d) (same_fault d e 
 
 -- ---- what occurs nowhere
 
-pub nowhere-nil : (stands : List Located → List Located → Bool) → Nowhere stands []
-nowhere-nil stands = record { never = λ before x after e. absurd (empty_no before x after e) }
+pub nowhere-nil : (holds : List Located → List Located → Bool) → Nowhere holds []
+nowhere-nil holds = record { never = λ before x after e. absurd (empty_no before x after e) }
 
-nowhere-first : (stands : List Located → List Located → Bool) (x : Located) (cs : List Located)
-    → stands [] (x ∷ cs) ≡ false → Nowhere (λ before. stands (x ∷ before)) cs
-    → (before : List Located) (y : Located) (after : List Located) → x ∷ cs ≡ before ++ y ∷ after → stands before (y ∷ after) ≡ false
-nowhere-first stands x cs here more [] y after e = ap (λ (l : List Located). stands [] l) (sym e) ∙ here
-nowhere-first stands x cs here more (z ∷ before) y after e =
-    ap (λ (w : Located). stands (w ∷ before) (y ∷ after)) (sym (head_same x z cs (before ++ y ∷ after) e))
+nowhere-first : (holds : List Located → List Located → Bool) (x : Located) (cs : List Located)
+    → holds [] (x ∷ cs) ≡ false → Nowhere (λ before. holds (x ∷ before)) cs
+    → (before : List Located) (y : Located) (after : List Located) → x ∷ cs ≡ before ++ y ∷ after → holds before (y ∷ after) ≡ false
+nowhere-first holds x cs here more [] y after e = ap (λ (l : List Located). holds [] l) (sym e) ∙ here
+nowhere-first holds x cs here more (z ∷ before) y after e =
+    ap (λ (w : Located). holds (w ∷ before) (y ∷ after)) (sym (head_same x z cs (before ++ y ∷ after) e))
     ∙ more.never before y after (tail_same x z cs (before ++ y ∷ after) e)
 
-pub nowhere-cons : (stands : List Located → List Located → Bool) (x : Located) (cs : List Located)
-    → stands [] (x ∷ cs) ≡ false → Nowhere (λ before. stands (x ∷ before)) cs → Nowhere stands (x ∷ cs)
-nowhere-cons stands x cs here more = record { never = nowhere-first stands x cs here more }
+pub nowhere-cons : (holds : List Located → List Located → Bool) (x : Located) (cs : List Located)
+    → holds [] (x ∷ cs) ≡ false → Nowhere (λ before. holds (x ∷ before)) cs → Nowhere holds (x ∷ cs)
+nowhere-cons holds x cs here more = record { never = nowhere-first holds x cs here more }
 
-pub nowhere-here : (stands : List Located → List Located → Bool) (x : Located) (cs : List Located) → Nowhere stands (x ∷ cs) → stands [] (x ∷ cs) ≡ false
-nowhere-here stands x cs n = n.never [] x cs refl
+pub nowhere-here : (holds : List Located → List Located → Bool) (x : Located) (cs : List Located) → Nowhere holds (x ∷ cs) → holds [] (x ∷ cs) ≡ false
+nowhere-here holds x cs n = n.never [] x cs refl
 
-pub nowhere-past : (stands : List Located → List Located → Bool) (x : Located) (cs : List Located)
-    → Nowhere stands (x ∷ cs) → Nowhere (λ before. stands (x ∷ before)) cs
-nowhere-past stands x cs n = record { never = λ before y after e. n.never (x ∷ before) y after (ap (λ l. x ∷ l) e) }
+pub nowhere-past : (holds : List Located → List Located → Bool) (x : Located) (cs : List Located)
+    → Nowhere holds (x ∷ cs) → Nowhere (λ before. holds (x ∷ before)) cs
+nowhere-past holds x cs n = record { never = λ before y after e. n.never (x ∷ before) y after (ap (λ l. x ∷ l) e) }
 
 -- ---- names
 
@@ -86,7 +86,7 @@ module _ (rule start : ℕ) where
   name_by x cs e false false one two others h =
       name_later x cs (ap (λ b. b || ends_field (x ∷ cs)) one ∙ two)
       (others (view_failed (one_more x) (name_at rule start cs) e
-      (sym (name-goes_on rule start (x ∷ cs) x cs refl one two) ∙ h)))
+      (sym (name-continues rule start (x ∷ cs) x cs refl one two) ∙ h)))
 
   name_faulty : (cs : List Located) (e : MarkupFault) → name_at rule start cs ≡ failed e → NameFault cs e
   name_faulty [] e h = subst (NameFault []) (same_fault _ e (sym (name-open rule start [] refl) ∙ h)) (unended (nowhere-nil ends_name))
@@ -104,7 +104,7 @@ module _ (rule : ℕ) (e : MarkupFault) where
   quoted_by x cs true one others h = not_failed ([], 1) e (sym (quoted-ends rule (x ∷ cs) x cs refl one) ∙ h)
   quoted_by x cs false one others h =
       let more = others (view_failed (one_more x) (quoted_at rule cs) e
-      (sym (quoted-goes_on rule (x ∷ cs) x cs refl one) ∙ h)) in
+      (sym (quoted-continues rule (x ∷ cs) x cs refl one) ∙ h)) in
       (more.0, nowhere-cons ends_quote x cs one more.1)
 
   quoted_faulty : (cs : List Located) → quoted_at rule cs ≡ failed e → NotEnded (Nowhere ends_quote cs)
@@ -117,7 +117,7 @@ module _ (rule : ℕ) (e : MarkupFault) where
   plain_by escaped x cs true one others h = not_failed ([], 0) e (sym (plain-ends rule escaped (x ∷ cs) x cs refl one) ∙ h)
   plain_by escaped x cs false one others h =
       let more = others (view_failed (one_more x) (plain_at rule (eqb x.1 backslash) cs) e
-      (sym (plain-goes_on rule escaped (x ∷ cs) x cs refl one) ∙ h)) in
+      (sym (plain-continues rule escaped (x ∷ cs) x cs refl one) ∙ h)) in
       (more.0, nowhere-cons (ends_from rule escaped) x cs one more.1)
 
   plain_faulty : (escaped : Bool) (cs : List Located) → plain_at rule escaped cs ≡ failed e → NotEnded (Nowhere (ends_from rule escaped) cs)
@@ -299,32 +299,32 @@ module _ (rule : ℕ) (tag : Tag) (start : List Located) where
     stop : (front : List Located) → trim_start after ≡ front → (e : MarkupFault)
         → read front (field_or_none rule tag values front) ≡ Err e → ends_field front ≡ false
         → IsFieldFault rule tag names front e → Outcome (fields_of rule tag values (x ∷ after))
-    stop front at e gave goes_on fault =
+    stop front at e gave continues fault =
         subst Outcome (sym (fields_fail rule tag values x after (x ∷ after) front e refl (sym at) one two gave)) (
           x ∷ after,
           names,
           sound,
-          in_field (eqb-true _ _ two) (ap ends_field at ∙ goes_on) (subst (λ l. IsFieldFault rule tag names l e) (sym at) fault),
+          in_field (eqb-true _ _ two) (ap ends_field at ∙ continues) (subst (λ l. IsFieldFault rule tag names l e) (sym at) fault),
         )
 
     field_by_reading : (z : Located) (zs : List Located) → trim_start after ≡ z ∷ zs → at_end (z ∷ zs) ≡ false
         → (r : Result (Values × ℕ) MarkupFault) → field_at rule z.0 tag values (z ∷ zs) ≡ r
         → Outcome (fields_of rule tag values (x ∷ after))
-    field_by_reading z zs at goes_on r was = by r was gave
+    field_by_reading z zs at continues r was = by r was gave
       where
         gave : read (z ∷ zs) (field_or_none rule tag values (z ∷ zs)) ≡ read (z ∷ zs) r
-        gave = ap (λ b. read (z ∷ zs) (cond b (Ok (values, 0)) (field_at rule z.0 tag values (z ∷ zs)))) goes_on ∙ ap (read (z ∷ zs)) was
+        gave = ap (λ b. read (z ∷ zs) (cond b (Ok (values, 0)) (field_at rule z.0 tag values (z ∷ zs)))) continues ∙ ap (read (z ∷ zs)) was
 
         by : (r : Result (Values × ℕ) MarkupFault) → field_at rule z.0 tag values (z ∷ zs) ≡ r
             → read (z ∷ zs) (field_or_none rule tag values (z ∷ zs)) ≡ read (z ∷ zs) r
             → Outcome (fields_of rule tag values (x ∷ after))
-        by (Err e) was gave = stop (z ∷ zs) at e gave goes_on (field_faulty rule tag values names held (z ∷ zs) e was)
+        by (Err e) was gave = stop (z ∷ zs) at e gave continues (field_faulty rule tag values names held (z ∷ zs) e was)
         by (Ok y) was gave =
             let following : List Located = drop y.1 (z ∷ zs) in
             let w = field_spelled rule z.0 tag values (z ∷ zs) following y.0 (ap (read (z ∷ zs)) was) in
             go_on (z ∷ zs) at y.0 following (w.name ∷ names) gave
             (read-shorter (z ∷ zs) (field_or_none rule tag values (z ∷ zs)) y.0 following gave)
-            (one_further sound (eqb-true _ _ two) (ap ends_field at ∙ goes_on)
+            (one_further sound (eqb-true _ _ two) (ap ends_field at ∙ continues)
             (subst (λ l. IsField l following w.name w.value) (sym at) w.is) (sym (second_is values w.name names tag held) ∙ w.once))
             (subst (λ m. HeldFor tag m (w.name ∷ names)) w.gives (held_on values w.name w.value names tag held))
 
@@ -334,7 +334,7 @@ module _ (rule : ℕ) (tag : Tag) (start : List Located) where
         let as_long : length (z ∷ zs) ≤ length (z ∷ zs) = omega arith in
         go_on (z ∷ zs) at values (z ∷ zs) names (none_read rule tag values (z ∷ zs) ends) as_long
         (subst (λ l. AreSoundFields tag start l names) at (empty sound (eqb-true _ _ two) (ap ends_field at ∙ ends))) held
-    field_outcome z zs at false goes_on = field_by_reading z zs at goes_on (field_at rule z.0 tag values (z ∷ zs)) refl
+    field_outcome z zs at false continues = field_by_reading z zs at continues (field_at rule z.0 tag values (z ∷ zs)) refl
 
     front_outcome : (front : List Located) → trim_start after ≡ front → Outcome (fields_of rule tag values (x ∷ after))
     front_outcome [] at =

@@ -158,11 +158,11 @@ name-refused rule start rest x after is other found =
     (map_ok (one_more x) (name_at rule start after)))) one
     ∙ ap (λ b. cond b (Err (without_equals rule start)) (map_ok (one_more x) (name_at rule start after))) two
 
-pub name-goes_on : (rule start : ℕ) (rest : List Located) (x : Located) (after : List Located) → rest ≡ x ∷ after
+pub name-continues : (rule start : ℕ) (rest : List Located) (x : Located) (after : List Located) → rest ≡ x ∷ after
     → begins_with equals rest ≡ false → at_end rest ≡ false
     → name_at rule start (x ∷ after) ≡ map_ok (one_more x) (name_at rule start after)
 unfolding name_at
-name-goes_on rule start rest x after is other further =
+name-continues rule start rest x after is other further =
     let one : begins_with equals (x ∷ after) ≡ false = ap (begins_with equals) (sym is) ∙ other in
     let two : at_end (x ∷ after) ≡ false = ap at_end (sym is) ∙ further in
     ap (λ b. cond b (Ok ([], 1)) (cond (at_end (x ∷ after)) (Err (without_equals rule start)) (map_ok (one_more x) (name_at rule start after)))) one
@@ -182,10 +182,10 @@ quoted-ends rule rest x after is found =
     let here : ends_quoted (x ∷ after) ≡ true = ap ends_quoted (sym is) ∙ found in
     ap (quoted_at rule) is ∙ ap (λ b. cond b (Ok ([], 1)) (map_ok (one_more x) (quoted_at rule after))) here
 
-pub quoted-goes_on : (rule : ℕ) (rest : List Located) (x : Located) (after : List Located) → rest ≡ x ∷ after
+pub quoted-continues : (rule : ℕ) (rest : List Located) (x : Located) (after : List Located) → rest ≡ x ∷ after
     → ends_quoted rest ≡ false → quoted_at rule (x ∷ after) ≡ map_ok (one_more x) (quoted_at rule after)
 unfolding quoted_at
-quoted-goes_on rule rest x after is other =
+quoted-continues rule rest x after is other =
     let here : ends_quoted (x ∷ after) ≡ false = ap ends_quoted (sym is) ∙ other in
     ap (λ b. cond b (Ok ([], 1)) (map_ok (one_more x) (quoted_at rule after))) here
 
@@ -201,11 +201,11 @@ plain-ends rule escaped rest x after is found =
     let here : ends_plain escaped (x ∷ after) ≡ true = ap (ends_plain escaped) (sym is) ∙ found in
     ap (plain_at rule escaped) is ∙ ap (λ b. cond b (Ok ([], 0)) (map_ok (one_more x) (plain_at rule (eqb x.1 backslash) after))) here
 
-pub plain-goes_on : (rule : ℕ) (escaped : Bool) (rest : List Located) (x : Located) (after : List Located)
+pub plain-continues : (rule : ℕ) (escaped : Bool) (rest : List Located) (x : Located) (after : List Located)
     → rest ≡ x ∷ after → ends_plain escaped rest ≡ false
     → plain_at rule escaped (x ∷ after) ≡ map_ok (one_more x) (plain_at rule (eqb x.1 backslash) after)
 unfolding plain_at
-plain-goes_on rule escaped rest x after is other =
+plain-continues rule escaped rest x after is other =
     let here : ends_plain escaped (x ∷ after) ≡ false = ap (ends_plain escaped) (sym is) ∙ other in
     ap (λ b. cond b (Ok ([], 0)) (map_ok (one_more x) (plain_at rule (eqb x.1 backslash) after))) here
 

@@ -294,9 +294,9 @@ module _ (rule : ℕ) (tag : Tag) where
 
   some_by : (start : ℕ) (values v more : Values) (x : Located) (after rest following : List Located) → x.1 ≡ semicolon → ends_field (trim_start after) ≡ false
       → WasField rule start tag values (trim_start after) following more → WereFields more following rest v → WereFields values (x ∷ after) rest v
-  some_by start values v more x after rest following is goes_on was others = (
+  some_by start values v more x after rest following is continues was others = (
     (was.name, was.value) ∷ others.0,
-    one_further is goes_on was.is others.1,
+    one_further is continues was.is others.1,
     adds_back values v was.name was.value others.0 tag was.once
         (subst (λ m. AddsFor tag m others.0 v) (sym was.gives) others.2),
   )
@@ -408,12 +408,12 @@ module _ (rule : ℕ) (tag : Tag) where
       (fields_of rule tag values (x ∷ cs)) refl refl (not_two_signs x cs is) (eq-eqb x.1 semicolon is)
       (none_read values (trim_start cs) ends) refl)
       ∙ fields_read others values v a
-  fields_read (one_further {x = x} {cs = cs} {more = more} {name = name} {value = value} {fs = fs} is goes_on one others) values v a =
+  fields_read (one_further {x = x} {cs = cs} {more = more} {name = name} {value = value} {fs = fs} is continues one others) values v a =
       let now = adds_on values v name value fs tag a in
       let next : Values = with_value (field_of tag name) value values in
       sym (fields_turn rule tag values x cs (x ∷ cs) (trim_start cs) next more
       (fields_of rule tag values (x ∷ cs)) refl refl (not_two_signs x cs is) (eq-eqb x.1 semicolon is)
-      (some_read values (trim_start cs) more value name goes_on one now.0) refl)
+      (some_read values (trim_start cs) more value name continues one now.0) refl)
       ∙ fields_read others next v now.1
 
 -- ---- rules

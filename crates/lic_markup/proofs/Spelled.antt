@@ -9,7 +9,7 @@ use Rattle.lic_markup.specs.Faults.{map_ok}
 use Rattle.lic_markup.specs.Rules.{at_end, ends_quoted, ends_plain, name_at, quoted_at, plain_at, value_at}
 use Rattle.lic_markup.specs.Markup.{UpTo, ends_field, ends_name, ends_quote, ends_escaped, IsValue, quoted, plain}
 use Rattle.lic_markup.proofs.FaultLemmas.{following, map_ok-map_ok, map_ok-same, with_remaining-further}
-use Rattle.lic_markup.proofs.RuleLemmas.{read, one_more-read, name-ends, name-refused, name-goes_on, name-open, quoted-ends, quoted-goes_on, quoted-open, plain-ends, plain-goes_on, plain-open}
+use Rattle.lic_markup.proofs.RuleLemmas.{read, one_more-read, name-ends, name-refused, name-continues, name-open, quoted-ends, quoted-continues, quoted-open, plain-ends, plain-continues, plain-open}
 
 -- ---- the first offset
 
@@ -23,30 +23,30 @@ head_same x y xs ys e = ap (λ (l : List Located). elim l [ [] ↦ x | z ∷ zs 
 pub tail_same : (x y : Located) (xs ys : List Located) → x ∷ xs ≡ y ∷ ys → xs ≡ ys
 tail_same x y xs ys e = ap (λ (l : List Located). elim l [ [] ↦ xs | z ∷ zs ↦ zs ]) e
 
-pub here_at : (stands : List Located → List Located → Bool) (cs : List Located) → stands [] cs ≡ true → UpTo stands cs [] cs
-here_at stands cs h = record { parts = refl; here = h; first = λ before x after e. absurd (empty_no before x after e) }
+pub here_at : (holds : List Located → List Located → Bool) (cs : List Located) → holds [] cs ≡ true → UpTo holds cs [] cs
+here_at holds cs h = record { parts = refl; here = h; first = λ before x after e. absurd (empty_no before x after e) }
 
-later_first : (stands : List Located → List Located → Bool) (x : Located) (cs front rest : List Located)
-    → stands [] (x ∷ cs) ≡ false → UpTo (λ before. stands (x ∷ before)) cs front rest
-    → (before : List Located) (y : Located) (after : List Located) → x ∷ front ≡ before ++ y ∷ after → stands before (y ∷ (after ++ rest)) ≡ false
-later_first stands x cs front rest none up [] y after e =
-    ap (λ (l : List Located). stands [] (l ++ rest)) (sym e) ∙ ap (λ (l : List Located). stands [] (x ∷ l)) (sym up.parts) ∙ none
-later_first stands x cs front rest none up (z ∷ before) y after e =
-    ap (λ (w : Located). stands (w ∷ before) (y ∷ (after ++ rest))) (sym (head_same x z front (before ++ y ∷ after) e))
+later_first : (holds : List Located → List Located → Bool) (x : Located) (cs front rest : List Located)
+    → holds [] (x ∷ cs) ≡ false → UpTo (λ before. holds (x ∷ before)) cs front rest
+    → (before : List Located) (y : Located) (after : List Located) → x ∷ front ≡ before ++ y ∷ after → holds before (y ∷ (after ++ rest)) ≡ false
+later_first holds x cs front rest none up [] y after e =
+    ap (λ (l : List Located). holds [] (l ++ rest)) (sym e) ∙ ap (λ (l : List Located). holds [] (x ∷ l)) (sym up.parts) ∙ none
+later_first holds x cs front rest none up (z ∷ before) y after e =
+    ap (λ (w : Located). holds (w ∷ before) (y ∷ (after ++ rest))) (sym (head_same x z front (before ++ y ∷ after) e))
     ∙ up.first before y after (tail_same x z front (before ++ y ∷ after) e)
 
-pub later : (stands : List Located → List Located → Bool) (x : Located) (cs front rest : List Located)
-    → stands [] (x ∷ cs) ≡ false → UpTo (λ before. stands (x ∷ before)) cs front rest
-    → UpTo stands (x ∷ cs) (x ∷ front) rest
-later stands x cs front rest none up = record { parts = ap (λ l. x ∷ l) up.parts; here = up.here; first = later_first stands x cs front rest none up }
+pub later : (holds : List Located → List Located → Bool) (x : Located) (cs front rest : List Located)
+    → holds [] (x ∷ cs) ≡ false → UpTo (λ before. holds (x ∷ before)) cs front rest
+    → UpTo holds (x ∷ cs) (x ∷ front) rest
+later holds x cs front rest none up = record { parts = ap (λ l. x ∷ l) up.parts; here = up.here; first = later_first holds x cs front rest none up }
 
-pub not_here : (stands : List Located → List Located → Bool) (x : Located) (cs front rest : List Located)
-    → UpTo stands cs (x ∷ front) rest → stands [] (x ∷ (front ++ rest)) ≡ false
-not_here stands x cs front rest up = up.first [] x front refl
+pub not_here : (holds : List Located → List Located → Bool) (x : Located) (cs front rest : List Located)
+    → UpTo holds cs (x ∷ front) rest → holds [] (x ∷ (front ++ rest)) ≡ false
+not_here holds x cs front rest up = up.first [] x front refl
 
-pub past : (stands : List Located → List Located → Bool) (x : Located) (cs front rest : List Located)
-    → UpTo stands cs (x ∷ front) rest → UpTo (λ before. stands (x ∷ before)) (front ++ rest) front rest
-past stands x cs front rest up = record { parts = refl; here = up.here; first = λ before y after e. up.first (x ∷ before) y after (ap (λ l. x ∷ l) e) }
+pub past : (holds : List Located → List Located → Bool) (x : Located) (cs front rest : List Located)
+    → UpTo holds cs (x ∷ front) rest → UpTo (λ before. holds (x ∷ before)) (front ++ rest) front rest
+past holds x cs front rest up = record { parts = refl; here = up.here; first = λ before y after e. up.first (x ∷ before) y after (ap (λ l. x ∷ l) e) }
 
 -- ---- what a reader gives
 
@@ -103,7 +103,7 @@ module _ (rule start : ℕ) where
   name_by x cs v rest false true one two others e = refused _ v rest (sym (ap (read (x ∷ cs)) (name-refused rule start (x ∷ cs) x cs refl one two)) ∙ e)
   name_by x cs v rest false false one two others e =
       let was = following_was x (read cs (name_at rule start cs)) v rest
-      (sym (ap (read (x ∷ cs)) (name-goes_on rule start (x ∷ cs) x cs refl one two)
+      (sym (ap (read (x ∷ cs)) (name-continues rule start (x ∷ cs) x cs refl one two)
       ∙ one_more-read x cs (name_at rule start cs)) ∙ e) in
       let more = others was.0 was.1 in (
         more.0,
@@ -126,7 +126,7 @@ module _ (rule start : ℕ) where
       let l : List Located = front ++ sign ∷ rest in
       let no = neither (begins_with equals (x ∷ l)) (ends_field (x ∷ l)) (not_here ends_name x cs front (sign ∷ rest) up) in
       ap (λ (l : List Located). read l (name_at rule start l)) up.parts
-      ∙ ap (read (x ∷ l)) (name-goes_on rule start (x ∷ l) x l refl no.0 no.1)
+      ∙ ap (read (x ∷ l)) (name-continues rule start (x ∷ l) x l refl no.0 no.1)
       ∙ one_more-read x l (name_at rule start l)
       ∙ ap (following (x ∷ [])) (name_read front sign l rest (past ends_name x cs front (sign ∷ rest) up) is)
 
@@ -145,7 +145,7 @@ module _ (rule : ℕ) where
       )
   quoted_by x cs v rest false one others e =
       let was = following_was x (read cs (quoted_at rule cs)) v rest
-      (sym (ap (read (x ∷ cs)) (quoted-goes_on rule (x ∷ cs) x cs refl one)
+      (sym (ap (read (x ∷ cs)) (quoted-continues rule (x ∷ cs) x cs refl one)
       ∙ one_more-read x cs (quoted_at rule cs)) ∙ e) in
       let more = others was.0 was.1 in
       (more.0, subst (λ w. UpTo ends_quote (x ∷ cs) w (more.0 ∷ rest)) was.2 (later ends_quote x cs was.0 (more.0 ∷ rest) one more.1))
@@ -161,7 +161,7 @@ module _ (rule : ℕ) where
   quoted_read (x ∷ front) end cs rest up =
       let l : List Located = front ++ end ∷ rest in
       ap (λ (l : List Located). read l (quoted_at rule l)) up.parts
-      ∙ ap (read (x ∷ l)) (quoted-goes_on rule (x ∷ l) x l refl (not_here ends_quote x cs front (end ∷ rest) up))
+      ∙ ap (read (x ∷ l)) (quoted-continues rule (x ∷ l) x l refl (not_here ends_quote x cs front (end ∷ rest) up))
       ∙ one_more-read x l (quoted_at rule l)
       ∙ ap (following (x ∷ [])) (quoted_read front end l rest (past ends_quote x cs front (end ∷ rest) up))
 
@@ -179,7 +179,7 @@ module _ (rule : ℕ) where
       (here_at (ends_from escaped) (x ∷ cs) one))
   plain_by escaped x cs v rest false one others e =
       let was = following_was x (read cs (plain_at rule (eqb x.1 backslash) cs)) v rest
-      (sym (ap (read (x ∷ cs)) (plain-goes_on rule escaped (x ∷ cs) x cs refl one)
+      (sym (ap (read (x ∷ cs)) (plain-continues rule escaped (x ∷ cs) x cs refl one)
       ∙ one_more-read x cs (plain_at rule (eqb x.1 backslash) cs)) ∙ e) in
       subst (λ w. UpTo (ends_from escaped) (x ∷ cs) w rest) was.2 (later (ends_from escaped) x cs was.0 rest one (others was.0 was.1))
 
@@ -197,7 +197,7 @@ module _ (rule : ℕ) where
   plain_read escaped (x ∷ front) cs rest up =
       let l : List Located = front ++ rest in
       ap (λ (l : List Located). read l (plain_at rule escaped l)) up.parts
-      ∙ ap (read (x ∷ l)) (plain-goes_on rule escaped (x ∷ l) x l refl (not_here (ends_from escaped) x cs front rest up))
+      ∙ ap (read (x ∷ l)) (plain-continues rule escaped (x ∷ l) x l refl (not_here (ends_from escaped) x cs front rest up))
       ∙ one_more-read x l (plain_at rule (eqb x.1 backslash) l)
       ∙ ap (following (x ∷ [])) (plain_read (eqb x.1 backslash) front l rest (past (ends_from escaped) x cs front rest up))
 

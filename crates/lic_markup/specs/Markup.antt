@@ -13,11 +13,11 @@ use Rattle.lic_markup.specs.Rules.{Rule}
 
 -- The characters cs are those in front and then rest, and that is the first offset at which `stands` holds, which is given
 -- what is before an offset and what is from there on.
-pub record UpTo (stands : List Located → List Located → Bool) (cs front rest : List Located) : Type 0 where
+pub record UpTo (holds : List Located → List Located → Bool) (cs front rest : List Located) : Type 0 where
   pub parts : cs ≡ front ++ rest
-  pub here : stands front rest ≡ true
+  pub here : holds front rest ≡ true
   pub first : (before : List Located) (x : Located) (after : List Located) → front ≡ before ++ x ∷ after
-      → stands before (x ∷ (after ++ rest)) ≡ false
+      → holds before (x ∷ (after ++ rest)) ≡ false
 
 -- ---- tags
 

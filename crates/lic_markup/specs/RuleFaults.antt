@@ -12,9 +12,9 @@ use Rattle.lic_markup.specs.Faults.{fault_at}
 use Rattle.lic_markup.specs.Markup.{UpTo, IsTag, IsField, ends_field, ends_name, ends_quote, ends_value}
 
 -- At none of these characters `stands` holds, which is given what is before an offset and what is from there on.
-pub record Nowhere (stands : List Located → List Located → Bool) (cs : List Located) : Type 0 where
+pub record Nowhere (holds : List Located → List Located → Bool) (cs : List Located) : Type 0 where
   pub never : (before : List Located) (x : Located) (after : List Located) → cs ≡ before ++ x ∷ after
-      → stands before (x ∷ after) ≡ false
+      → holds before (x ∷ after) ≡ false
 
 -- ---- the fields that a tag needs
 

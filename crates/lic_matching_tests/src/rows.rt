@@ -81,11 +81,11 @@ fn wrong_shifts(alloc: Global, words: usize, limit: usize) -> Result<usize, Allo
 /// Whether a row with one bit, or with none if the bit is after its end, is seen to be so from each side of the bit.
 fn is_seen(alloc: Global, words: usize, b: usize) -> Result<bool, AllocError> {
     let row = single(alloc, words, b)?;
-    let stands = b / 64 < row.len();
+    let is_there = b / 64 < row.len();
     Ok(
-        is_zero(&row) != stands
-            && any_from(&row, 0) == stands
-            && any_from(&row, b) == stands
+        is_zero(&row) != is_there
+            && any_from(&row, 0) == is_there
+            && any_from(&row, b) == is_there
             && !any_from(&row, b.saturating_add(1))
             && !any_from(&row, b.saturating_add(64)),
     )

@@ -2,7 +2,7 @@
 
 use crate::lent::{CHECKED, OF, OPTIONAL, TWO, Templates, set_of, text_of};
 use crate::refused::{Refused, retried};
-use lic_engine::{check, run, run_tokens};
+use lic_engine::{Memory, check, run, run_tokens};
 use lic_find::Ask;
 use lic_kind::Rules;
 use lic_norm::Words;
@@ -128,8 +128,16 @@ fn reports(
 ) -> Result<bool, Refused> {
     let mut input = Pieces::of(case.input);
     let mut out = Awaited::of(case.report);
+    let mut memory = Memory::new(alloc);
     let some = run(
-        alloc, "-", &mut input, &mut out, set, words, rules, &case.ask,
+        &mut memory,
+        "-",
+        &mut input,
+        &mut out,
+        set,
+        words,
+        rules,
+        &case.ask,
     )
     .map_err(Refused::Run)?;
     Ok(out.is_whole() && some == !case.report.is_empty())
@@ -196,7 +204,10 @@ fn lists(alloc: Global, words: &Words, rules: &Rules, case: &Listed) -> Result<b
     let count = count_tokens(alloc, case.input, words, rules)?;
     let mut input = Pieces::of(case.input);
     let mut out = Awaited::of(case.lines);
-    let some = run_tokens(alloc, "-", &mut input, &mut out, words, rules).map_err(Refused::Run)?;
+    let mut memory = Memory::new(alloc);
+    let some = run_tokens(&mut memory, "-", &mut input, &mut out, words, rules).map_err(
+        Refused::Run,
+    )?;
     Ok(count == case.count && out.is_whole() && some == !case.lines.is_empty())
 }
 

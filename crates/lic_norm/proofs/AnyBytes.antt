@@ -113,10 +113,10 @@ begins_or_not bytes some = at (width_of_first bytes) refl
 -- ---- the first source character and the others
 
 -- the source characters after a character are those of what follows it
-behind_all : (front rest : List ℕ) (at : ℕ) → source_after (length front) at (front ++ rest) ≡ source_after 0 (at + length front) rest
-behind_all [] rest at = ap (λ n. source_after 0 n rest) (let e : at ≡ at + 0 = omega arith in e)
-behind_all (b ∷ front) rest at =
-    behind_all front rest (at + 1)
+after_all : (front rest : List ℕ) (at : ℕ) → source_after (length front) at (front ++ rest) ≡ source_after 0 (at + length front) rest
+after_all [] rest at = ap (λ n. source_after 0 n rest) (let e : at ≡ at + 0 = omega arith in e)
+after_all (b ∷ front) rest at =
+    after_all front rest (at + 1)
     ∙ ap (λ n. source_after 0 n rest) (let e : at + 1 + length front ≡ at + length (b ∷ front) = omega arith in e)
 
 pub source_of-none : (at : ℕ) → source_of at [] ≡ []
@@ -149,7 +149,7 @@ source_of-char at c rest scalar = by (encode_utf8 c) refl
         ap (source_after 0 at) same
         ∙ ap₂ (λ d w. (record { char = d; start = at; end = at + w }) ∷ source_after (w - 1) (at + 1) (front ++ rest)) char width
         ∙ ap (λ l. (record { char = c; start = at; end = at + len_utf8 c }) ∷ l)
-        (ap (λ n. source_after n (at + 1) (front ++ rest)) long ∙ behind_all front rest (at + 1)
+        (ap (λ n. source_after n (at + 1) (front ++ rest)) long ∙ after_all front rest (at + 1)
         ∙ ap (λ n. source_after 0 n rest) (let e : at + 1 + length front ≡ at + len_utf8 c = omega (arith, long, len_utf8_bounds c) in e))
 
 pub source_of-byte : (at b : ℕ) (rest : List ℕ) → StartsWithNoChar (b ∷ rest)
@@ -222,17 +222,17 @@ source_of-utf8 at text u =
     ∙ ap (λ l. placed at (chars text) ++ l) (source_of-none (at + length text)) ∙ append-nil (placed at (chars text))
 
 -- where one list continues after another
-parts_behind : (zs xs ws ys : List ℕ) → xs ++ ys ≡ zs ++ ws → length zs ≤ length xs → (mid : List ℕ) × (xs ≡ zs ++ mid) × (ws ≡ mid ++ ys)
-parts_behind [] xs ws ys e le = (xs, refl, sym e)
-parts_behind (z ∷ zs) [] ws ys e le = absurd (omega arith)
-parts_behind (z ∷ zs) (x ∷ xs) ws ys e le =
-    let rest = parts_behind zs xs ws ys (ap (drop 1) e) (omega arith) in
+parts_after : (zs xs ws ys : List ℕ) → xs ++ ys ≡ zs ++ ws → length zs ≤ length xs → (mid : List ℕ) × (xs ≡ zs ++ mid) × (ws ≡ mid ++ ys)
+parts_after [] xs ws ys e le = (xs, refl, sym e)
+parts_after (z ∷ zs) [] ws ys e le = absurd (omega arith)
+parts_after (z ∷ zs) (x ∷ xs) ws ys e le =
+    let rest = parts_after zs xs ws ys (ap (drop 1) e) (omega arith) in
     (rest.0, ap₂ (λ a l. a ∷ l) (ap (λ l. get_or l 0 0) e) rest.1, rest.2)
 
 -- what begins no character begins none where it ends sooner
 no_char_sooner : (front rest : List ℕ) → StartsWithNoChar (front ++ rest) → StartsWithNoChar front
-no_char_sooner front rest none = λ c behind scalar parts.
-    none c (behind ++ rest) scalar (ap (λ l. l ++ rest) parts ∙ append_assoc (encode_utf8 c) behind rest)
+no_char_sooner front rest none = λ c past scalar parts.
+    none c (past ++ rest) scalar (ap (λ l. l ++ rest) parts ∙ append_assoc (encode_utf8 c) past rest)
 
 -- No character goes over an ASCII byte: what comes before it is read by itself.
 pub source_of-before_ascii : (at : ℕ) (front : List ℕ) (b : ℕ) (rest : List ℕ) → b < 128
@@ -243,12 +243,12 @@ source_of-before_ascii at front b rest ascii = by (source_of-AreSourceChars at (
     nothing at = ap₂ (λ l n. l ++ source_of n (b ∷ rest)) (sym (source_of-none at)) (let e : at ≡ at + 0 = omega arith in e)
 
     -- a character that begins before the ASCII byte ends before it
-    ends_before : (c : ℕ) (front behind : List ℕ) → 0 < length front → front ++ b ∷ rest ≡ encode_utf8 c ++ behind → len_utf8 c ≤ length front
-    ends_before c front behind some parts = ⊎_elim
+    ends_before : (c : ℕ) (front past : List ℕ) → 0 < length front → front ++ b ∷ rest ≡ encode_utf8 c ++ past → len_utf8 c ≤ length front
+    ends_before c front past some parts = ⊎_elim
         (λ (over : length front < len_utf8 c).
         let bytes = front ++ b ∷ rest in
         let at_b : get_or bytes (length front) 0 ≡ b = get_or-append_seam front b rest 0 in
-        let same : c ≡ b = inside_one c behind bytes (length front) parts (omega (arith, length-encode c)) (omega arith) ∙ at_b in
+        let same : c ≡ b = inside_one c past bytes (length front) parts (omega (arith, length-encode c)) (omega arith) ∙ at_b in
         absurd (omega (arith, len_utf8_ascii c (omega arith))))
         (λ (within : len_utf8 c ≤ length front). within)
         (cases_lt (length front) (len_utf8 c))
@@ -257,25 +257,25 @@ source_of-before_ascii at front b rest ascii = by (source_of-AreSourceChars at (
         → bytes ≡ front ++ b ∷ rest → source_of at bytes
         ≡ source_of at front ++ source_of (at + length front) (b ∷ rest)
     by (AreSourceChars.no_bytes at) front parts = absurd (omega (arith, ap length parts, length-append front (b ∷ rest)))
-    by (AreSourceChars.a_char at bytes c behind cs scalar came read) [] parts = ap (source_of at) parts ∙ nothing at
-    by (AreSourceChars.a_char at bytes c behind cs scalar came read) (x ∷ front) parts =
+    by (AreSourceChars.a_char at bytes c past cs scalar came read) [] parts = ap (source_of at) parts ∙ nothing at
+    by (AreSourceChars.a_char at bytes c past cs scalar came read) (x ∷ front) parts =
         let whole = x ∷ front in
-        let le : length (encode_utf8 c) ≤ length whole = omega (arith, length-encode c, ends_before c whole behind (omega arith) (sym parts ∙ came)) in
-        let cut = parts_behind (encode_utf8 c) whole behind (b ∷ rest) (sym parts ∙ came) le in
+        let le : length (encode_utf8 c) ≤ length whole = omega (arith, length-encode c, ends_before c whole past (omega arith) (sym parts ∙ came)) in
+        let cut = parts_after (encode_utf8 c) whole past (b ∷ rest) (sym parts ∙ came) le in
         let mid = cut.0 in
         let long : at + len_utf8 c + length mid ≡ at + length whole = omega (arith, ap length cut.1, length-append (encode_utf8 c) mid, length-encode c) in
         let first : SourceChar = record { char = c; start = at; end = at + len_utf8 c } in
-        ap (source_of at) came ∙ source_of-char at c behind scalar
+        ap (source_of at) came ∙ source_of-char at c past scalar
         ∙ ap (λ l. first ∷ l) (by read mid cut.2 ∙ ap (λ n. source_of (at + len_utf8 c) mid ++ source_of n (b ∷ rest)) long)
         ∙ ap (λ l. l ++ source_of (at + length whole) (b ∷ rest)) (sym (ap (source_of at) cut.1 ∙ source_of-char at c mid scalar))
-    by (AreSourceChars.a_byte at a behind cs none read) [] parts = ap (source_of at) parts ∙ nothing at
-    by (AreSourceChars.a_byte at a behind cs none read) (x ∷ front) parts =
+    by (AreSourceChars.a_byte at a past cs none read) [] parts = ap (source_of at) parts ∙ nothing at
+    by (AreSourceChars.a_byte at a past cs none read) (x ∷ front) parts =
         let same : a ≡ x = ap (λ l. get_or l 0 0) parts in
-        let later : behind ≡ front ++ b ∷ rest = ap (drop 1) parts in
+        let later : past ≡ front ++ b ∷ rest = ap (drop 1) parts in
         let first : SourceChar = record { char = 0xFFFD; start = at; end = at + 1 } in
         let long : at + 1 + length front ≡ at + length (x ∷ front) = omega arith in
         let none' : StartsWithNoChar (x ∷ front) = no_char_sooner (x ∷ front) (b ∷ rest) (subst StartsWithNoChar parts none) in
-        source_of-byte at a behind none
+        source_of-byte at a past none
         ∙ ap (λ l. first ∷ l) (by read front later ∙ ap (λ n. source_of (at + 1) front ++ source_of n (b ∷ rest)) long)
         ∙ ap (λ l. l ++ source_of (at + length (x ∷ front)) (b ∷ rest)) (sym (source_of-byte at x front none'))
 

@@ -1,14 +1,15 @@
 -- Tokens that are spelled together before they are added to a list.
-use Rattle.std.proofs.Common.{◌≡◌, ℕ, ◌+◌, ◌≤◌, ◌<◌, ◌&&◌, Bool, true, false, List, [], ◌∷◌, ◌++◌, length, take, drop, get_or, refl, sym, ap, ap₂, subst, ◌∙◌, arith, append_assoc, append-nil, length-append}
+use Rattle.std.proofs.Common.{◌≡◌, ℕ, ◌+◌, ◌≤◌, ◌&&◌, Bool, true, false, List, [], ◌∷◌, ◌++◌, length, take, drop, get_or, sym, ap, ap₂, subst, ◌∙◌, arith, append_assoc, append-nil, length-append}
 use Rattle.std.specs.Int.{from_bool}
-use Rattle.std.specs.Prelude.{slice_set, IsAscii}
+use Rattle.std.specs.Prelude.{slice_set}
 use Rattle.std.specs.Str.{IsUtf8}
 use Rattle.std.proofs.Math.Seq.{take-append-add}
 use Rattle.std.proofs.lemmas.List.{length-set, length-take-le, take-set, take-take, take_more_set}
 use Rattle.std.proofs.lemmas.Slice.{take-put_mid}
 use borrow.Rule.Slice.PartMut.{put_mid}
 use Rattle.std.proofs.lemmas.Str.{IsUtf8-append, IsUtf8-nil}
-use Rattle.lic_kind.specs.Kinds.{is_word_kind, kind_of}
+use Rattle.lic_columns.specs.Bytes.{is_word}
+use Rattle.lic_columns.specs.PlainLines.{HasWords}
 use Rattle.lic_lines.specs.Tokens.{Token, single_signs}
 use Rattle.lic_phrases.specs.Rewriting.{SpannedText, spanned}
 use Rattle.lic_phrases.specs.Settling.{Settles, nothing_kept}
@@ -24,9 +25,9 @@ use Rattle.lic_norm.specs.declared.rewriting.batch.Batch.{Batch}
 use Rattle.lic_norm.specs.declared.rewriting.batch.Spelled.{Spelled}
 use Rattle.lic_norm.specs.declared.rewriting.token_list.Entry.{Entry}
 use Rattle.lic_norm.proofs.EntryLemmas.{kept-values, kept_more}
-use Rattle.lic_norm.proofs.PartedLemmas.{begins-ascii, ends-ascii}
 use Rattle.lic_norm.proofs.SpellingPlaces.{blank_utf8, ends_as}
 use Rattle.lic_norm.proofs.TakenSteps.{none_taken, one_taken, taken_in_turn, token_left}
+use Rattle.lic_norm.proofs.WordTexts.{begins-words, ends-words}
 
 -- ---- bytes
 
@@ -62,11 +63,11 @@ module _ (old letters : List ℕ) (place len : ℕ) (fits : place + 17 ≤ lengt
       ∙ ap₂ (λ (a b : List ℕ). a ++ b) (ap (λ n. take n blank_put) is ∙ front blank) (ap (take len) same ∙ take-take len 16 letters short)
       ∙ append_assoc (take place old) (blank_if blank) (take len letters)
 
--- whether a text ends in a word, by its last letter
-pub word_after : (front text : List ℕ) (n : ℕ) (word : Bool) → IsUtf8 front → IsUtf8 text → n + 1 ≡ length text → get_or text n 0 < 128
-    → word ≡ is_word_kind (kind_of (get_or text n 0)) → word ≡ ends_in_word (front ++ text)
-word_after front text n word front_utf8 utf8 count small is =
-    is ∙ ends-ascii text n utf8 count small ∙ sym (ends_as front text front_utf8 utf8 (omega (arith, count)))
+-- whether a text ends in a word, by its last byte
+pub word_after : (front text : List ℕ) (n : ℕ) (word : Bool) → IsUtf8 front → IsUtf8 text → HasWords text → n + 1 ≡ length text
+    → word ≡ is_word (get_or text n 0) → word ≡ ends_in_word (front ++ text)
+word_after front text n word front_utf8 utf8 words count is =
+    is ∙ ends-words text n utf8 words count ∙ sym (ends_as front text front_utf8 utf8 (omega (arith, count)))
 
 -- ---- tokens
 
@@ -163,22 +164,22 @@ one_more_spelled tokens i next rewriting bytes bytes' entries entries' token e k
 -- ---- a batch
 
 module _ (tokens : List Token) (i : ℕ) (rewriting : Rewriting) (batch : Batch) (state : Spelled) (text : List ℕ)
-    (known : AreInBatch tokens i rewriting batch state) (utf8 : IsUtf8 text) (is : IsTokenText text) (ascii : IsAscii text) where
+    (known : AreInBatch tokens i rewriting batch state) (utf8 : IsUtf8 text) (is : IsTokenText text) (words : HasWords text) where
   abbrev so_far : List ℕ
   so_far = take state.place batch.bytes
 
   abbrev parted : Bool
   parted = is_parted (spelled (texts_of rewriting.tokens) ++ so_far) text
 
-  pub blank_is : (first : Bool) → first ≡ is_word_kind (kind_of (get_or text 0 0)) → (state.after_word && first) ≡ parted
-  blank_is first is_first = ap₂ (λ a b. a && b) known.word (is_first ∙ begins-ascii text utf8 is.not_empty (ascii 0))
+  pub blank_is : (first : Bool) → first ≡ is_word (get_or text 0 0) → (state.after_word && first) ≡ parted
+  blank_is first is_first = ap₂ (λ a b. a && b) known.word (is_first ∙ begins-words text utf8 words is.not_empty)
 
-  pub word_is : (n : ℕ) (word : Bool) (bytes : List ℕ) → n + 1 ≡ length text → word ≡ is_word_kind (kind_of (get_or text n 0))
+  pub word_is : (n : ℕ) (word : Bool) (bytes : List ℕ) → n + 1 ≡ length text → word ≡ is_word (get_or text n 0)
       → bytes ≡ so_far ++ (blank_if parted ++ text) → word ≡ ends_in_word (spelled (texts_of rewriting.tokens) ++ bytes)
   word_is n word bytes count is_word grown =
       let before = spelled (texts_of rewriting.tokens) in
       let blank = blank_if parted in
       word_after ((before ++ so_far) ++ blank) text n word
       (IsUtf8-append (before ++ so_far) blank (IsUtf8-append before so_far known.utf8 known.holds.spelled.utf8) (blank_utf8 parted))
-      utf8 count (ascii n) is_word
+      utf8 words count is_word
       ∙ ap ends_in_word (append_assoc (before ++ so_far) blank text ∙ append_assoc before so_far (blank ++ text) ∙ ap (λ bs. before ++ bs) (sym grown))

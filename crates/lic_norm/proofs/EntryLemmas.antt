@@ -14,7 +14,7 @@ use Rattle.lic_norm.specs.Tokens.{TokenValue}
 use Rattle.lic_norm.specs.Views.{AreEntries, IsKept, entry_values, text_from}
 use Rattle.lic_norm.specs.declared.token.Span.{Span}
 use Rattle.lic_norm.specs.declared.rewriting.token_list.Entry.{Entry}
-use Rattle.lic_norm.proofs.SpellingPlaces.{AreTexts, AreTexts-snoc, are_texts, slice_parts, spelled-snoc, stands, stands_at}
+use Rattle.lic_norm.proofs.SpellingPlaces.{AreTexts, AreTexts-snoc, are_texts, slice_parts, spelled-snoc, occurs, occurs_at}
 
 -- ---- the tokens of entries
 
@@ -25,7 +25,7 @@ values-are whole before [] [] known texts are is = refl
 values-are whole before [] (e ∷ entries) known texts are is = absurd are
 values-are whole before (t ∷ tokens) [] known texts are is = absurd are
 values-are whole before (t ∷ tokens) (e ∷ entries) known texts are is =
-    let s = stands before t.text (texts_of tokens) known texts.0 texts.1 texts.2 in
+    let s = occurs before t.text (texts_of tokens) known texts.0 texts.1 texts.2 in
     let text : slice_range whole (text_from whole (length (spelled before))) e.text_end ≡ t.text =
     slice_parts whole s.front t.text s.more _ _ (is ∙ s.parts) (ap (λ l. text_from l (length (spelled before))) is ∙ s.from) (are.0 ∙ s.ends) in
     let later : entry_values whole e.text_end entries ≡ tokens =
@@ -99,13 +99,13 @@ module _ (spelling : List ℕ) (entries : List Entry) (tokens : List TokenValue)
 
   pub end_inside : end < length spelling
   end_inside =
-      let s = stands_at tokens i spelling inside (are_texts tokens kept.utf8 kept.texts) kept.spells in
+      let s = occurs_at tokens i spelling inside (are_texts tokens kept.utf8 kept.texts) kept.spells in
       let text = get_or (texts_of tokens) i [] in
       omega (arith, end_before, s.order, ap length s.parts, length-append s.front (text ++ s.more), length-append text s.more, text_some tokens i inside kept.texts)
 
   start_is : text_from spelling end ≡ place_start tokens i
   start_is =
-      let s = stands_at tokens i spelling inside (are_texts tokens kept.utf8 kept.texts) kept.spells in
+      let s = occurs_at tokens i spelling inside (are_texts tokens kept.utf8 kept.texts) kept.spells in
       ap (text_from spelling) end_before ∙ s.from ∙ sym s.starts
 
   pub start_after_blank : (bytes : List ℕ) (at : ℕ) → bytes ≡ spelling → at ≡ end → get_or bytes at 0 ≡ 0x20 → at + 1 ≡ place_start tokens i
@@ -129,13 +129,13 @@ module _ (spelling : List ℕ) (entries : List Entry) (tokens : List TokenValue)
 
   pub start_before_end : place_start tokens i ≤ place_end tokens i
   start_before_end =
-      let s = stands_at tokens i spelling inside (are_texts tokens kept.utf8 kept.texts) kept.spells in
+      let s = occurs_at tokens i spelling inside (are_texts tokens kept.utf8 kept.texts) kept.spells in
       omega (arith, s.starts, s.ends)
 
   pub start_is_boundary : IsCharBoundary spelling (place_start tokens i)
   start_is_boundary =
       let known = are_texts tokens kept.utf8 kept.texts in
-      let s = stands_at tokens i spelling inside known kept.spells in
+      let s = occurs_at tokens i spelling inside known kept.spells in
       let v : TokenValue = record { text = []; span = record { start = 0; end = 0 } } in
       let text = get_or (texts_of tokens) i [] in
       let utf8 : IsUtf8 text = subst IsUtf8 (sym (text_at tokens i v inside)) (kept.utf8 i v inside) in
@@ -144,14 +144,14 @@ module _ (spelling : List ℕ) (entries : List Entry) (tokens : List TokenValue)
 
   pub end_is_boundary : IsCharBoundary spelling (place_end tokens i)
   end_is_boundary =
-      let s = stands_at tokens i spelling inside (are_texts tokens kept.utf8 kept.texts) kept.spells in
+      let s = occurs_at tokens i spelling inside (are_texts tokens kept.utf8 kept.texts) kept.spells in
       let text = get_or (texts_of tokens) i [] in
       subst (IsCharBoundary spelling) (length-append s.front text ∙ sym s.ends)
       (IsCharBoundary-at_seam spelling (s.front ++ text) s.more (s.parts ∙ sym (append_assoc s.front text s.more)) s.utf8)
 
   pub text_is : (v : TokenValue) → slice_range spelling (place_start tokens i) (place_end tokens i) ≡ (get_or tokens i v).text
   text_is v =
-      let s = stands_at tokens i spelling inside (are_texts tokens kept.utf8 kept.texts) kept.spells in
+      let s = occurs_at tokens i spelling inside (are_texts tokens kept.utf8 kept.texts) kept.spells in
       slice_parts spelling s.front (get_or (texts_of tokens) i []) s.more (place_start tokens i) (place_end tokens i) s.parts s.starts s.ends
       ∙ text_at tokens i v inside
 

@@ -14,7 +14,7 @@ use Rattle.lic_trim.specs.Lines.{whole_line, tail_length}
 use Rattle.lic_lines.specs.Cells.{line_cells, cells_of_cut}
 use Rattle.lic_lines.specs.Tokens.{first_tokens, single_signs, line_tokens, text_tokens, tokens_of_cells}
 use Rattle.lic_lines.proofs.Gaps.{no_streaks}
-use Rattle.lic_trim.proofs.ItemLemmas.{item_none, few_behind}
+use Rattle.lic_trim.proofs.ItemLemmas.{item_none, few_after}
 use Rattle.lic_lines.proofs.LineByLine.{text_tokens-lines}
 use Rattle.lic_norm.specs.LineEnds.{IsFirstLine}
 use Rattle.lic_norm.specs.Sources.{source_of}
@@ -95,9 +95,9 @@ no_ends (s ∷ text) none = All-cons NoEnd s text (All-head (λ c. c ≢ 0x0A) s
     (no_ends text (All-tail (λ c. c ≢ 0x0A) s.char (chars_of text) none))
 
 -- The lines of a text are its first line and those of the rest, however its characters are placed.
-pub lines_of-first : (line rest : List SourceChar) (letters behind : List ℕ) → IsFirstLine letters behind → chars_of line ≡ letters → (behind ≡ [] → rest ≡ [])
+pub lines_of-first : (line rest : List SourceChar) (letters past : List ℕ) → IsFirstLine letters past → chars_of line ≡ letters → (past ≡ [] → rest ≡ [])
     → lines_of (without_dropped (line ++ rest)) ≡ as_line (without_dropped line) ++ lines_of (without_dropped rest)
-lines_of-first line rest letters behind first same none_behind =
+lines_of-first line rest letters past first same none_after =
     elim first.ends [
       | inl feed_last ↦
           let e = ends_line line first.front (same ∙ feed_last) in
@@ -114,7 +114,7 @@ lines_of-first line rest letters behind first same none_behind =
           ∙ ap (λ l. l ++ lines_of others) (sym (ap as_line alone ∙ as_line-some before feed))
       | inr no_feed ↦
           let clear : All NoEnd line = no_ends line (subst (λ cs. All (λ c. c ≢ 0x0A) cs) (sym (same ∙ no_feed.0)) first.no_end) in
-          let rest_none : rest ≡ [] = none_behind no_feed.1 in
+          let rest_none : rest ≡ [] = none_after no_feed.1 in
           ap (λ r. lines_of (without_dropped (line ++ r))) rest_none
           ∙ ap (λ l. lines_of (without_dropped l)) (append-nil line)
           ∙ cut-only (without_dropped line) (All-filter keeps NoEnd line clear)
@@ -171,7 +171,7 @@ letters_of-first at line rest first =
 pub no_cells_whole : (rules : LineRules) → line_cells rules whole_line [] ≡ []
 no_cells_whole rules = ap (λ n.
     cells_of_cut (record { lead = 0; item = n; tail = tail_length rules whole_line (drop n []) }) [])
-    (item_none rules [] [] (omega arith) (few_behind None))
+    (item_none rules [] [] (omega arith) (few_after None))
 
 -- and no cells no tokens
 pub no_tokens : (rules : LineRules) → tokens_of_cells rules [] ≡ []

@@ -13,6 +13,7 @@ pub mod TokenSpans
 pub mod TokenTexts
 pub mod WholeLines
 pub mod ReaderLemmas
+pub mod ReaderFronts
 pub mod ReadingLemmas
 pub mod AsciiLines
 pub mod StretchTokens
@@ -20,4 +21,7 @@ pub mod TakenSteps
 pub mod TextLemmas
 pub mod SpellingPlaces
 pub mod PartedLemmas
+pub mod WordTexts
+pub mod StretchPlaces
+pub mod WordBytes
 pub mod BatchLemmas

@@ -26,7 +26,7 @@ one_ascii : (b : ℕ) → b < 128 → IsAscii (b ∷ [])
 one_ascii b small zero = small
 one_ascii b small (suc i) = omega arith
 
-split_last : (bytes : List ℕ) (n : ℕ) → n + 1 ≡ length bytes → bytes ≡ take n bytes ++ get_or bytes n 0 ∷ []
+pub split_last : (bytes : List ℕ) (n : ℕ) → n + 1 ≡ length bytes → bytes ≡ take n bytes ++ get_or bytes n 0 ∷ []
 split_last [] n count = absurd (omega arith)
 split_last (b ∷ []) zero count = refl
 split_last (b ∷ c ∷ bytes) zero count = absurd (omega arith)

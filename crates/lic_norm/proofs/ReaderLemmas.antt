@@ -67,7 +67,7 @@ module _ (source : List ℕ) (from place : ℕ) (found : IsLastByte (is_byte 0x0
 
   -- and there is none from each place after it
   pub none_later : (at : ℕ) → from + place < at → All NoEnd (drop at source)
-  none_later at behind =
+  none_later at past =
       let there : from + (place + 1) + (at - (from + place + 1)) ≡ at = omega arith in
       subst (All NoEnd)
       (ap (drop (at - (from + place + 1))) (drop-drop (place + 1) from source)
@@ -132,14 +132,14 @@ pub settled_first : (rules : LineRules) (rewriting : Rewriting) (source more : L
 settled_first rules rewriting source more at lines has =
     let words = rewriting.phrases.now.phrases in
     let front = take at source in
-    let behind = drop at source ++ more in
-    let whole : source ++ more ≡ front ++ behind = ap (λ l. l ++ more) (sym (take-append-drop at source)) ∙ append_assoc front (drop at source) more in
-    let rest = first_tokens_of rules (0 + length front) behind in
+    let past = drop at source ++ more in
+    let whole : source ++ more ≡ front ++ past = ap (λ l. l ++ more) (sym (take-append-drop at source)) ∙ append_assoc front (drop at source) more in
+    let rest = first_tokens_of rules (0 + length front) past in
     let kept = left_of words rewriting.rewriter rest in (
       map reported kept,
       ap (λ l. map reported (rewritten words (first_tokens_of rules 0 l))) whole
-          ∙ ap (λ l. map reported (rewritten words l)) (first_tokens_of-lines rules 0 front behind lines)
-          ∙ ap (map reported) (has.settles.goes_on rest)
+          ∙ ap (λ l. map reported (rewritten words l)) (first_tokens_of-lines rules 0 front past lines)
+          ∙ ap (map reported) (has.settles.continues rest)
           ∙ map-append reported has.settled kept
           ∙ ap (λ l. l ++ map reported kept) (sym has.listed),
     )

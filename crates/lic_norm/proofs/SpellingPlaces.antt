@@ -160,9 +160,9 @@ pub record Stands (before : List (List ℕ)) (text : List ℕ) (after : List (Li
   pub from : text_from (spelled (before ++ text ∷ after)) (length (spelled before)) ≡ length front
   pub order : length (spelled before) ≤ length front
 
-pub stands : (before : List (List ℕ)) (text : List ℕ) (after : List (List ℕ)) → AreTexts before → IsUtf8 text → IsTokenText text → AreTexts after
+pub occurs : (before : List (List ℕ)) (text : List ℕ) (after : List (List ℕ)) → AreTexts before → IsUtf8 text → IsTokenText text → AreTexts after
     → Stands before text after
-stands before text after known utf8 is are =
+occurs before text after known utf8 is are =
     let later = spelled-more (before ++ text ∷ []) after (AreTexts-snoc before text known utf8 is) are in
     let parted = is_parted (spelled before) text in
     let blank = blank_if parted in
@@ -217,15 +217,15 @@ pub record StandsAt (tokens : List TokenValue) (i : ℕ) (whole text : List ℕ)
   pub from : text_from whole (length (spelled (take i (texts_of tokens)))) ≡ length front
   pub order : length (spelled (take i (texts_of tokens))) ≤ length front
 
-pub stands_at : (tokens : List TokenValue) (i : ℕ) (whole : List ℕ) → i < length tokens → AreTexts (texts_of tokens)
+pub occurs_at : (tokens : List TokenValue) (i : ℕ) (whole : List ℕ) → i < length tokens → AreTexts (texts_of tokens)
     → whole ≡ spelled (texts_of tokens) → StandsAt tokens i whole (get_or (texts_of tokens) i [])
 unfolding place_end place_start
-stands_at tokens i whole inside known is =
+occurs_at tokens i whole inside known is =
     let texts = texts_of tokens in
     let within : i < length texts = omega (arith, length-texts_of tokens) in
     let text = get_or texts i [] in
     let one = AreTexts-at texts i within known in
-    let s = stands (take i texts) text (drop (suc i) texts) (AreTexts-take i texts known) one.0 one.1 (AreTexts-drop (suc i) texts known) in
+    let s = occurs (take i texts) text (drop (suc i) texts) (AreTexts-take i texts known) one.0 one.1 (AreTexts-drop (suc i) texts known) in
     let split : whole ≡ spelled (take i texts ++ text ∷ drop (suc i) texts) = is ∙ ap spelled (split_at texts i within) in
     let end : place_end tokens i ≡ length s.front + length text = ap (λ l. length (spelled l)) (take_one_more texts i within) ∙ s.ends in
     record {

@@ -1,9 +1,14 @@
 -- Tokens that are given by the places where they begin and end.
 use Rattle.std.proofs.Common.{◌≡◌, ℕ, zero, suc, ◌+◌, ◌-◌, ◌<◌, ◌==◌, Bool, true, false, not, ◌&&◌, ◌||◌, List, [], ◌∷◌, length, take, drop, get_or, refl, sym, ap, ◌∙◌, subst, arith, add-one, drop-cons, length-drop, true≢false}
 use Rattle.std.specs.Char.{encode_utf8}
-use Rattle.std.specs.Prelude.{bytes_eq, codes, if◌then◌else◌, nat_lt, slice_range, IsAscii}
+use Rattle.std.specs.List.{AllByRecursion}
+use Rattle.std.specs.Str.{chars}
+use Rattle.std.specs.Prelude.{bytes_eq, codes, if◌then◌else◌, nat_lt, slice_range}
 use Rattle.std.proofs.lemmas.Bool.{cond-true, cond-false, ne_eqb}
+use Rattle.lic_kind.specs.declared.Kind.TheVariants.{Mark, Word}
+use Rattle.lic_kind.specs.Kinds.{kind_of}
 use Rattle.lic_columns.specs.Marks.{is_joining}
+use Rattle.lic_columns.specs.PlainLines.{HasWords, IsOfWord}
 use Rattle.lic_columns.specs.SpanTokens.{span_tokens, spans_by, token_text}
 use Rattle.lic_lines.specs.Tokens.{Token, is_text, is_sign_in_parentheses, sign_from, as_sign, single_signs}
 use Rattle.lic_phrases.specs.FirstTexts.{IsPlain}
@@ -102,13 +107,27 @@ plain_letters (l ∷ m ∷ letters) plain =
 
 -- ---- signs
 
--- a token of ASCII is no sign by itself
-pub ascii_sign : (t : Token) → IsAscii t.text → as_sign t ≡ t
+sign_is_mark : kind_of 0xA9 ≡ Mark
+unfolding kind_of
+sign_is_mark = refl
+
+sign_char : chars (0xC2 ∷ 0xA9 ∷ []) ≡ 0xA9 ∷ []
+unfolding chars
+sign_char = refl
+
+-- U+00A9 is beyond ASCII and of no word
+no_words : HasWords (0xC2 ∷ 0xA9 ∷ []) → ⊥
+no_words words =
+    let word : kind_of 0xA9 ≡ Word = (subst (AllByRecursion IsOfWord) sign_char words).0 (omega arith) in
+    let same : Mark ≡ Word = sym sign_is_mark ∙ word in
+    cc
+
+-- a token of which what is beyond ASCII is of words is no sign by itself
+pub words_no_sign : (t : Token) → HasWords t.text → as_sign t ≡ t
 unfolding encode_utf8
-ascii_sign t ascii =
+words_no_sign t words =
     cond-false (is_text (0xC2 ∷ 0xA9 ∷ []) t) (record t { text = codes "copyright" }) t
-    (sym (bytes_eq-other (0xC2 ∷ 0xA9 ∷ []) t.text
-    (λ same. let first : 0xC2 ≡ get_or t.text 0 0 = ap (λ l. get_or l 0 0) same in absurd (omega (arith, ascii 0)))))
+    (sym (bytes_eq-other (0xC2 ∷ 0xA9 ∷ []) t.text (λ same. no_words (subst HasWords (sym same) words))))
 
 -- tokens of which the first is no `(` begin no sign
 pub no_parenthesis : (t : Token) (ts : List Token) → is_text (codes "(") t ≡ false → begins_sign (t ∷ ts) ≡ false
@@ -211,10 +230,10 @@ sign_taken tokens i start end blank sign starts ends after =
 
 -- another token, by its parts
 pub token_taken : (tokens : List Token) (i : ℕ) (text : List ℕ) (start end : ℕ) (blank : Bool) → i < length tokens
-    → begins_sign (drop i tokens) ≡ false → IsAscii text → text ≡ (get_or tokens i no_token).text → start ≡ (get_or tokens i no_token).start
+    → begins_sign (drop i tokens) ≡ false → HasWords text → text ≡ (get_or tokens i no_token).text → start ≡ (get_or tokens i no_token).start
     → end ≡ (get_or tokens i no_token).end → blank ≡ (get_or tokens i no_token).after_blank
     → record { text = text; start = start; end = end; after_blank = blank } ∷ single_signs (drop (i + 1) tokens) ≡ single_signs (drop i tokens)
-token_taken tokens i text start end blank lt none ascii texts starts ends after =
+token_taken tokens i text start end blank lt none words texts starts ends after =
     let t = get_or tokens i no_token in
     let rest = drop (i + 1) tokens in
     let parts : drop i tokens ≡ t ∷ rest = next_token tokens i no_token lt in
@@ -222,5 +241,5 @@ token_taken tokens i text start end blank lt none ascii texts starts ends after 
     ∙ ap (λ n. let u : Token = record { text = t.text; start = n; end = end; after_blank = blank } in u ∷ single_signs rest) starts
     ∙ ap (λ n. let u : Token = record { text = t.text; start = t.start; end = n; after_blank = blank } in u ∷ single_signs rest) ends
     ∙ ap (λ n. let u : Token = record { text = t.text; start = t.start; end = t.end; after_blank = n } in u ∷ single_signs rest) after
-    ∙ sym (token_alone t rest (sym (ap begins_sign parts) ∙ none) (ascii_sign t (subst IsAscii texts ascii)))
+    ∙ sym (token_alone t rest (sym (ap begins_sign parts) ∙ none) (words_no_sign t (subst HasWords texts words)))
     ∙ ap single_signs (sym parts)

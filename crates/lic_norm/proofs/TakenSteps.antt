@@ -1,4 +1,4 @@
--- Tokens of lines of ASCII that are taken in turn.
+-- Tokens of lines that are taken in turn.
 use Rattle.std.proofs.Common.{◌≡◌, ℕ, List, [], ◌∷◌, ◌++◌, drop, refl, sym, ap, subst, ◌∙◌, append_assoc, append-nil}
 use Rattle.std.proofs.lemmas.List.Elements.{All-push}
 use Rattle.lic_lines.specs.Tokens.{Token, single_signs}

@@ -128,10 +128,10 @@ module _ (source : List ℕ) where
   -- ---- phrases
 
   -- the tokens after some that are joined to the first
-  behind-Lie : (n : ℕ) (t : Token) (ts : List Token) (to : ℕ) → TokensLie source t.end ts to → TokensLie source (end_of_last t (take n ts)) (drop n ts) to
-  behind-Lie zero t ts to l = l
-  behind-Lie (suc n) t [] to l = l
-  behind-Lie (suc n) t (u ∷ ts) to l = behind-Lie n u ts to l.4
+  past-Lie : (n : ℕ) (t : Token) (ts : List Token) (to : ℕ) → TokensLie source t.end ts to → TokensLie source (end_of_last t (take n ts)) (drop n ts) to
+  past-Lie zero t ts to l = l
+  past-Lie (suc n) t [] to l = l
+  past-Lie (suc n) t (u ∷ ts) to l = past-Lie n u ts to l.4
 
   phrases-Lie : (words : List Phrase) (n : ℕ) (from : ℕ) (ts : List Token) (to : ℕ)
       → TokensLie source from (drop n ts) to → TokensLie source from (phrases_after words n ts) to
@@ -147,7 +147,7 @@ module _ (source : List ℕ) where
       at (Some p) more =
           let n = length p.texts - 1 in
           let last = last-lies t (take n ts) to l.3 (Lie-take source (λ (r : Token). r.start) (λ r. r.end) n t.end ts to l.4) in
-          (l.0, omega (arith, l.1, last.0), l.2, last.2, more n (end_of_last t (take n ts)) (behind-Lie n t ts to l.4))
+          (l.0, omega (arith, l.1, last.0), l.2, last.2, more n (end_of_last t (take n ts)) (past-Lie n t ts to l.4))
 
   rewritten-Lie : (words : List Phrase) (from : ℕ) (ts : List Token) (to : ℕ) → TokensLie source from ts to
       → TokensLie source from (phrases_joined words (https_as_http (sign_sequences ts))) to

@@ -264,11 +264,11 @@ sequences-texts [] h = h
 sequences-texts ([] ∷ sequences) h = sequences-texts sequences h
 sequences-texts ((t ∷ ts) ∷ sequences) h =
     let rest = flat_map (λ (sequence : List Token). sequence) sequences in
-    more_have _ (flat_map sign_of_sequence sequences) (first_has t (ts ++ rest) h) (sequences-texts sequences (behind ts rest (rest_have t (ts ++ rest) h)))
+    more_have _ (flat_map sign_of_sequence sequences) (first_has t (ts ++ rest) h) (sequences-texts sequences (past ts rest (rest_have t (ts ++ rest) h)))
   where
-    behind : (xs ys : List Token) → HaveTexts (xs ++ ys) → HaveTexts ys
-    behind [] ys g = g
-    behind (x ∷ xs) ys g = behind xs ys (rest_have x (xs ++ ys) g)
+    past : (xs ys : List Token) → HaveTexts (xs ++ ys) → HaveTexts ys
+    past [] ys g = g
+    past (x ∷ xs) ys g = past xs ys (rest_have x (xs ++ ys) g)
 
 https-texts : (ts : List Token) → HaveTexts ts → HaveTexts (https_as_http ts)
 https-texts [] h = h
@@ -398,7 +398,7 @@ pub settled-texts : (words : List Phrase) (taken : List Token) (before given : L
     → Settles words taken (before ++ given) kept → AreTokenTexts (map reported given)
 settled-texts words taken before given kept known texts settles =
     given-texts words taken before given (left_of words kept []) known texts
-    (ap (rewritten words) (sym (append-nil taken)) ∙ settles.goes_on [])
+    (ap (rewritten words) (sym (append-nil taken)) ∙ settles.continues [])
 
 -- the front of some tokens
 pub front-texts : (ts us : List Token) → HaveTexts (ts ++ us) → HaveTexts ts

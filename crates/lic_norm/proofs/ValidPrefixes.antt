@@ -28,9 +28,9 @@ longest_up_to bytes (suc m) =
     ]
 
 -- where the longest prefix that is UTF-8 ends, no character begins
-pub no_char_behind : (bytes : List ℕ) (n : ℕ) → n ≡ utf8_valid_len bytes → n ≤ length bytes → StartsWithNoChar (drop n bytes)
+pub no_char_after : (bytes : List ℕ) (n : ℕ) → n ≡ utf8_valid_len bytes → n ≤ length bytes → StartsWithNoChar (drop n bytes)
 unfolding utf8_valid_len
-no_char_behind bytes n longest within c rest scalar parts =
+no_char_after bytes n longest within c rest scalar parts =
     let front = longest_up_to bytes (length bytes) in
     let long : length (drop n bytes) ≡ len_utf8 c + length rest =
     ap length parts ∙ length-append (encode_utf8 c) rest ∙ ap (λ k. k + length rest) (length-encode c) in

@@ -24,12 +24,12 @@ ends s = s.char == 0x0A
 -- ---- source characters
 
 -- a U+000A in an input is read by itself, and what comes before it and after it as well
-source_of-feed : (at : ℕ) (front behind : List ℕ)
-    → source_of at (front ++ 0x0A ∷ behind)
+source_of-feed : (at : ℕ) (front past : List ℕ)
+    → source_of at (front ++ 0x0A ∷ past)
     ≡ source_of at front ++ (record { char = 0x0A; start = at + length front; end = at + length front + 1 })
-    ∷ source_of (at + length front + 1) behind
-source_of-feed at front behind =
-    source_of-before_ascii at front 0x0A behind (lit< tt) ∙ ap (λ l. source_of at front ++ l) (source_of-ascii (at + length front) 0x0A behind (lit< tt))
+    ∷ source_of (at + length front + 1) past
+source_of-feed at front past =
+    source_of-before_ascii at front 0x0A past (lit< tt) ∙ ap (λ l. source_of at front ++ l) (source_of-ascii (at + length front) 0x0A past (lit< tt))
 
 -- the source characters with a line end in them, without the dropped ones
 kept_feed : (xs : List SourceChar) (feed : SourceChar) (ys : List SourceChar) → feed.char ≡ 0x0A
@@ -43,25 +43,25 @@ kept_feed xs feed ys is =
 -- ---- tokens
 
 -- the tokens of whole lines come first, and then those of what is after them
-pub first_tokens_of-lines : (rules : LineRules) (at : ℕ) (lines behind : List ℕ) → AreLines lines
-    → first_tokens_of rules at (lines ++ behind)
-    ≡ first_tokens_of rules at lines ++ first_tokens_of rules (at + length lines) behind
+pub first_tokens_of-lines : (rules : LineRules) (at : ℕ) (lines past : List ℕ) → AreLines lines
+    → first_tokens_of rules at (lines ++ past)
+    ≡ first_tokens_of rules at lines ++ first_tokens_of rules (at + length lines) past
 unfolding first_tokens_of
-first_tokens_of-lines rules at lines behind (inl none) =
-    ap (λ l. text_tokens rules (source_of at (l ++ behind))) none
-    ∙ ap (λ n. text_tokens rules (source_of n behind)) (let e : at ≡ at + length lines = omega (arith, ap length none) in e)
-    ∙ ap (λ l. l ++ text_tokens rules (source_of (at + length lines) behind))
+first_tokens_of-lines rules at lines past (inl none) =
+    ap (λ l. text_tokens rules (source_of at (l ++ past))) none
+    ∙ ap (λ n. text_tokens rules (source_of n past)) (let e : at ≡ at + length lines = omega (arith, ap length none) in e)
+    ∙ ap (λ l. l ++ text_tokens rules (source_of (at + length lines) past))
     (sym (ap (text_tokens rules) (ap (source_of at) none ∙ source_of-none at) ∙ no_tokens rules))
-first_tokens_of-lines rules at lines behind (inr (front, is)) =
+first_tokens_of-lines rules at lines past (inr (front, is)) =
     let f = line_tokens rules whole_line in
     let n = at + length front in
     let feed : SourceChar = record { char = 0x0A; start = n; end = n + 1 } in
     let before = source_of at front in
-    let there = source_of (at + length lines) behind in
+    let there = source_of (at + length lines) past in
     let long : n + 1 ≡ at + length lines = omega (arith, ap length is, length-append front (0x0A ∷ [])) in
-    let whole : source_of at (lines ++ behind) ≡ before ++ feed ∷ there =
-    ap (λ l. source_of at (l ++ behind)) is ∙ ap (source_of at) (append_assoc front (0x0A ∷ []) behind) ∙ source_of-feed at front behind
-    ∙ ap (λ m. before ++ feed ∷ source_of m behind) long in
+    let whole : source_of at (lines ++ past) ≡ before ++ feed ∷ there =
+    ap (λ l. source_of at (l ++ past)) is ∙ ap (source_of at) (append_assoc front (0x0A ∷ []) past) ∙ source_of-feed at front past
+    ∙ ap (λ m. before ++ feed ∷ source_of m past) long in
     let alone : source_of at lines ≡ before ++ feed ∷ [] =
     ap (source_of at) is ∙ source_of-feed at front [] ∙ ap (λ l. before ++ feed ∷ l) (source_of-none (n + 1)) in
     let cut : lines_of (without_dropped (before ++ feed ∷ there)) ≡ lines_of (without_dropped (before ++ feed ∷ [])) ++ lines_of (without_dropped there) =
@@ -117,9 +117,9 @@ no_feed (b ∷ bytes) none =
     let here : (b == 0x0A) ≡ false = false_from_ne_true (b == 0x0A) (λ is. All-head (λ b. b ≢ 0x0A) b bytes none (eqb-true b 0x0A is)) in
     ap (λ t. t || list_any (λ b. b == 0x0A) bytes) here ∙ no_feed bytes (All-tail (λ b. b ≢ 0x0A) b bytes none)
 
-some_feed : (front behind : List ℕ) → list_any (λ b. b == 0x0A) (front ++ 0x0A ∷ behind) ≡ true
-some_feed [] behind = refl
-some_feed (b ∷ front) behind = ap (λ t. (b == 0x0A) || t) (some_feed front behind) ∙ either (b == 0x0A)
+some_feed : (front past : List ℕ) → list_any (λ b. b == 0x0A) (front ++ 0x0A ∷ past) ≡ true
+some_feed [] past = refl
+some_feed (b ∷ front) past = ap (λ t. (b == 0x0A) || t) (some_feed front past) ∙ either (b == 0x0A)
   where
     either : (t : Bool) → (t || true) ≡ true
     either true = refl
@@ -129,15 +129,15 @@ lines_read-none : (bytes : List ℕ) → All (λ b. b ≢ 0x0A) bytes → lines_
 lines_read-none [] none = refl
 lines_read-none (b ∷ bytes) none = cond-false (list_any (λ b. b == 0x0A) (b ∷ bytes)) (b ∷ lines_read bytes) [] (no_feed (b ∷ bytes) none)
 
-lines_read-feed : (front behind : List ℕ) → All (λ b. b ≢ 0x0A) behind → lines_read (front ++ 0x0A ∷ behind) ≡ front ++ 0x0A ∷ []
-lines_read-feed [] behind none =
-    cond-true (list_any (λ b. b == 0x0A) (0x0A ∷ behind)) (0x0A ∷ lines_read behind) [] (some_feed [] behind) ∙ ap (λ l. 0x0A ∷ l) (lines_read-none behind none)
-lines_read-feed (b ∷ front) behind none =
-    cond-true (list_any (λ b. b == 0x0A) (b ∷ (front ++ 0x0A ∷ behind))) (b ∷ lines_read (front ++ 0x0A ∷ behind)) [] (some_feed (b ∷ front) behind)
-    ∙ ap (λ l. b ∷ l) (lines_read-feed front behind none)
+lines_read-feed : (front past : List ℕ) → All (λ b. b ≢ 0x0A) past → lines_read (front ++ 0x0A ∷ past) ≡ front ++ 0x0A ∷ []
+lines_read-feed [] past none =
+    cond-true (list_any (λ b. b == 0x0A) (0x0A ∷ past)) (0x0A ∷ lines_read past) [] (some_feed [] past) ∙ ap (λ l. 0x0A ∷ l) (lines_read-none past none)
+lines_read-feed (b ∷ front) past none =
+    cond-true (list_any (λ b. b == 0x0A) (b ∷ (front ++ 0x0A ∷ past))) (b ∷ lines_read (front ++ 0x0A ∷ past)) [] (some_feed (b ∷ front) past)
+    ∙ ap (λ l. b ∷ l) (lines_read-feed front past none)
 
-pub lines_read-is : (lines behind : List ℕ) → AreLines lines → All (λ b. b ≢ 0x0A) behind → lines_read (lines ++ behind) ≡ lines
-lines_read-is lines behind (inl none) clear = ap (λ l. lines_read (l ++ behind)) none ∙ lines_read-none behind clear ∙ sym none
-lines_read-is lines behind (inr (front, is)) clear =
-    ap (λ l. lines_read (l ++ behind)) is ∙ ap lines_read (append_assoc front (0x0A ∷ []) behind)
-    ∙ lines_read-feed front behind clear ∙ sym is
+pub lines_read-is : (lines past : List ℕ) → AreLines lines → All (λ b. b ≢ 0x0A) past → lines_read (lines ++ past) ≡ lines
+lines_read-is lines past (inl none) clear = ap (λ l. lines_read (l ++ past)) none ∙ lines_read-none past clear ∙ sym none
+lines_read-is lines past (inr (front, is)) clear =
+    ap (λ l. lines_read (l ++ past)) is ∙ ap lines_read (append_assoc front (0x0A ∷ []) past)
+    ∙ lines_read-feed front past clear ∙ sym is

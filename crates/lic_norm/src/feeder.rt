@@ -8,8 +8,10 @@ ghost use Rattle.lic_norm.specs.Spans.{AreSpans, AreTokenTexts};
 ghost use Rattle.lic_norm.specs.Tokens.{tokens_of};
 
 use crate::fault::TextFault;
-use crate::reader::Reader;
+use crate::reader::line_tokens::LineBuffers;
+use crate::reader::{MAX_KEPT, Reader};
 use crate::refusal::MAX_BYTES;
+use crate::rewriting::token_list::TokenList;
 use crate::text::Text;
 use crate::token::Token;
 use crate::words::Words;
@@ -63,9 +65,30 @@ impl<'w> Feeder<'w> {
           refused = None;
         } }
     {
+        let (tokens, buffers) = (TokenList::new(alloc), LineBuffers::new(alloc));
         Feeder {
             words,
-            reader: Reader::new(alloc, Vec::new(alloc), words, rules),
+            reader: Reader::new(alloc, Vec::new(alloc), tokens, buffers, words, rules),
+            refused: None,
+        }
+    }
+
+    /// Nothing is fed yet. The memory of this text is used again, unless it is a long one.
+    pub fn reuse(alloc: Global, text: Text, words: &'w Words, rules: &'w Rules) -> Feeder<'w>
+        ensures { result ≡ record {
+          bytes = [];
+          words = words.now;
+          rules = rules_of rules.now;
+          tokens = [];
+          refused = None;
+        } }
+    {
+        if text.source().len() > MAX_KEPT {
+            return Feeder::new(alloc, words, rules);
+        }
+        Feeder {
+            words,
+            reader: text.into_reader(alloc, words, rules),
             refused: None,
         }
     }

@@ -11,8 +11,8 @@ pub(crate) mod line_tokens;
 pub(crate) mod lines;
 
 use crate::fault::TextFault;
-use crate::reader::line_tokens::{LineBuffers, ascii_text, take_any_line, take_ascii};
-use crate::reader::lines::{line_end, lines_end};
+use crate::reader::line_tokens::{LineBuffers, ascii_text, take_any_line, take_ascii, take_front};
+use crate::reader::lines::{MAX_TOGETHER, line_end, lines_end};
 use crate::refusal::MAX_BYTES;
 use crate::rewriting::Rewriting;
 use crate::rewriting::token_list::TokenList;
@@ -24,6 +24,9 @@ use std::alloc::{AllocError, Global};
 
 /// Fewer bytes than these are read in less time by their characters than 64 at once.
 const FEW: usize = 24;
+
+/// The memory of an input that has more bytes is not used for the next one.
+pub(crate) const MAX_KEPT: usize = 1_048_576;
 
 /// The bytes that were read, and the tokens of their lines up to the last U+000A. Of the line that has not ended
 /// only the bytes are kept.
@@ -39,13 +42,16 @@ pub(crate) struct Reader<'w> {
 }
 
 impl<'w> Reader<'w> {
-    /// Nothing is read yet of this source.
+    /// Nothing is read yet of this source. The list has no token.
     pub(crate) fn new(
         alloc: Global,
         source: Vec<u8>,
+        tokens: TokenList,
+        buffers: LineBuffers,
         words: &'w Words,
         rules: &'w Rules,
     ) -> Reader<'w>
+        requires { tokens ≡ [] }
         ensures read { HasRead result }
         ensures source { result.source.items ≡ source.items }
         ensures start { result.line_start ≡ 0 }
@@ -58,9 +64,9 @@ impl<'w> Reader<'w> {
             alloc,
             source,
             line_start: 0,
-            rewriting: Rewriting::new(alloc, words.phrases()),
+            rewriting: Rewriting::new(alloc, words.phrases(), tokens),
             rules,
-            buffers: LineBuffers::new(alloc),
+            buffers,
         }
     }
 
@@ -97,6 +103,33 @@ impl<'w> Reader<'w> {
         )?;
         self.line_start = end;
         Ok(true)
+    }
+
+    /// Takes the tokens of the lines that come next and are read by columns though they are not ASCII, if there are any.
+    fn take_front(&mut self) -> Result<bool, AllocError>
+        requires read { HasRead self.old }
+        ensures read { OnOk result (HasRead self.new) }
+        ensures some { IfOk result (λ some. IsTrue some → self.old.line_start < self.new.line_start) }
+        ensures start { IfOk result (λ some. some ≡ false → self.new.line_start ≡ self.old.line_start) }
+        ensures source { self.new.source.items ≡ self.old.source.items }
+        ensures words { self.new.rewriting.phrases.now ≡ self.old.rewriting.phrases.now }
+        ensures rules { self.new.rules.now ≡ self.old.rules.now }
+    {
+        let start = self.line_start;
+        if self.source.len() > MAX_BYTES {
+            return Ok(false);
+        }
+        let end = start + MAX_TOGETHER.min(self.source.len() - start);
+        let count = take_front(
+            self.alloc,
+            self.rules,
+            start as u32,
+            &self.source[start..end],
+            &mut self.buffers,
+            &mut self.rewriting,
+        )?;
+        self.line_start = start + count;
+        Ok(count > 0)
     }
 
     /// Takes the tokens of the line that ends here, whatever its bytes are.
@@ -152,7 +185,7 @@ impl<'w> Reader<'w> {
         Ok(())
     }
 
-    /// Takes the next line, which has ended, and with it lines of ASCII that follow one of ASCII.
+    /// Takes the next line, which has ended, and with it those that follow it and are read by columns together with it.
     fn take_next(&mut self) -> Result<(), AllocError>
         requires read { HasRead self.old }
         requires fits { length self.old.source.items < 2 ^ 32 }
@@ -167,9 +200,13 @@ impl<'w> Reader<'w> {
         let rest = &self.source[start..];
         let lines = start + lines_end(rest);
         let line = start + line_end(rest);
-        if !self.take_ascii(lines)? {
-            self.take_any_line(line)?;
+        if self.take_ascii(lines)? {
+            return Ok(());
         }
+        if self.take_front()? {
+            return Ok(());
+        }
+        self.take_any_line(line)?;
         Ok(())
     }
 
@@ -227,8 +264,8 @@ impl<'w> Reader<'w> {
         self.rewriting.settled()
     }
 
-    /// The source and its tokens. What has not ended is its last line.
-    pub(crate) fn finish(self) -> Result<(Vec<u8>, TokenList), AllocError>
+    /// The source and its tokens, and the buffers. What has not ended is its last line.
+    pub(crate) fn finish(self) -> Result<(Vec<u8>, TokenList, LineBuffers), AllocError>
         requires read { HasReadLines self }
         requires fits { length self.source.items < 2 ^ 32 }
         ensures source { IfOk result (λ text. text.0.items ≡ self.entry.source.items) }
@@ -239,11 +276,16 @@ impl<'w> Reader<'w> {
         let end = reader.source.len();
         reader.take_line(end)?;
         let Reader {
+            alloc,
             source,
             rewriting,
+            buffers,
             ..
         } = reader;
         let tokens = rewriting.finish()?;
-        Ok((source, tokens))
+        if end > MAX_KEPT {
+            return Ok((source, tokens, LineBuffers::new(alloc)));
+        }
+        Ok((source, tokens, buffers))
     }
 }

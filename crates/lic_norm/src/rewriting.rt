@@ -13,6 +13,7 @@ ghost use Rattle.lic_norm.specs.Tokens.{reported};
 pub(crate) mod batch;
 pub(crate) mod stretch;
 pub(crate) mod token_list;
+mod word_bytes;
 
 use crate::rewriting::batch::{Batch, Spelled, plain_text, spell};
 use crate::rewriting::stretch::Stretch;
@@ -27,7 +28,7 @@ use std::alloc::{AllocError, Global};
 /// Room for the work on a part of a line, kept from one part to the next. What it holds has no effect.
 #[derive(Drop)]
 pub(crate) struct PartBuffers {
-    pub(crate) room: Buffers,
+    pub(crate) buffers: Buffers,
     /// The first tokens of the part.
     pub(crate) tokens: Vec<FirstToken>,
 }
@@ -43,9 +44,10 @@ pub struct Rewriting<'w> {
 }
 
 impl<'w> Rewriting<'w> {
-    /// Nothing is taken yet.
-    pub(crate) fn new(alloc: Global, phrases: &'w Phrases) -> Rewriting<'w>
-        requires { HaveTokenTexts phrases.now.phrases }
+    /// Nothing is taken yet. This list has no token.
+    pub(crate) fn new(alloc: Global, phrases: &'w Phrases, tokens: TokenList) -> Rewriting<'w>
+        requires texts { HaveTokenTexts phrases.now.phrases }
+        requires empty { tokens ≡ [] }
         ensures taken { HasTaken result [] }
         ensures tokens { result.tokens ≡ [] }
         ensures phrases { result.phrases.now ≡ phrases.now }
@@ -53,7 +55,7 @@ impl<'w> Rewriting<'w> {
         Rewriting {
             phrases,
             rewriter: Rewriter::new(alloc),
-            tokens: TokenList::new(alloc),
+            tokens,
             settled: Vec::new(alloc),
         }
     }
@@ -181,7 +183,7 @@ impl<'w> Rewriting<'w> {
         Ok(())
     }
 
-    /// Takes tokens of lines of ASCII, from the number `i` on, as long as each is settled at once and as it is. Gives the number of
+    /// Takes tokens of lines, from the number `i` on, as long as each is settled at once and as it is. Gives the number of
     /// the next.
     #[inline(never)]
     fn take_plain(
@@ -212,7 +214,7 @@ impl<'w> Rewriting<'w> {
         Ok(next)
     }
 
-    /// Takes the token number `i` of lines of ASCII, if there is one and it is plain. Gives the number of the next.
+    /// Takes the token number `i` of lines, if there is one and it is plain. Gives the number of the next.
     #[inline(never)]
     fn take_one(&mut self, stretch: &Stretch<'_>, i: usize) -> Result<usize, AllocError>
         requires within { i ≤ length stretch.now }
@@ -237,7 +239,7 @@ impl<'w> Rewriting<'w> {
         Ok(i + 1)
     }
 
-    /// Takes tokens of lines of ASCII together, from the number `i` on, as long as each is plain and short. Gives the number of the next.
+    /// Takes tokens of lines together, from the number `i` on, as long as each is plain and short. Gives the number of the next.
     fn take_batch(
         &mut self,
         stretch: &Stretch<'_>,
@@ -260,7 +262,7 @@ impl<'w> Rewriting<'w> {
         Ok(next)
     }
 
-    /// Takes the token number `i` of lines of ASCII, if there is one, or the copyright sign that begins there, through the rewriter, and
+    /// Takes the token number `i` of lines, if there is one, or the copyright sign that begins there, through the rewriter, and
     /// lists the tokens that are settled then. Gives the number of the next.
     #[inline(never)]
     fn take_next(
@@ -292,7 +294,7 @@ impl<'w> Rewriting<'w> {
         Ok(i + 1)
     }
 
-    /// Takes the tokens of lines of ASCII, each copyright sign as one, and lists the tokens that are settled then.
+    /// Takes the tokens of lines, each copyright sign as one, and lists the tokens that are settled then.
     pub(crate) fn take_stretch(
         &mut self,
         alloc: Global,
@@ -323,7 +325,7 @@ impl<'w> Rewriting<'w> {
         rules: &Rules,
         after_blank: bool,
         text: &[SourceChar],
-        room: &mut PartBuffers,
+        buffers: &mut PartBuffers,
     ) -> Result<FrontPart, AllocError>
         requires emptied { self.old.settled.items ≡ [] }
         requires before { HasTakenSome self.old }
@@ -338,8 +340,8 @@ impl<'w> Rewriting<'w> {
         ensures phrases { self.new.phrases.now ≡ self.old.phrases.now }
         ensures emptied { OnOk result (self.new.settled.items ≡ []) }
     {
-        let PartBuffers { room, tokens } = room;
-        let part = front_part(alloc, rules, after_blank, text, room, tokens)?;
+        let PartBuffers { buffers, tokens } = buffers;
+        let part = front_part(alloc, rules, after_blank, text, buffers, tokens)?;
         self.take_all(alloc, tokens)?;
         Ok(part)
     }
@@ -352,7 +354,7 @@ impl<'w> Rewriting<'w> {
         rules: &Rules,
         text: &[SourceChar],
         letters: &mut String,
-        room: &mut PartBuffers,
+        buffers: &mut PartBuffers,
     ) -> Result<(), AllocError>
         requires before { HasTakenSome self.old }
         ensures taken { OnOk result ((taken : List Token) → HasTaken self.old taken
@@ -377,7 +379,7 @@ impl<'w> Rewriting<'w> {
                     place += length;
                 }
                 TextStart::Other => {
-                    let part = self.take_front(alloc, rules, after_blank, rest, room)?;
+                    let part = self.take_front(alloc, rules, after_blank, rest, buffers)?;
                     after_blank = part.blank_after;
                     place += part.length;
                 }

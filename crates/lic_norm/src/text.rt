@@ -1,10 +1,11 @@
 //! A source and its tokens.
 
-ghost use Rattle.std.specs.Prelude.{◌≡◌, ◌<◌, ◌≤◌, ◌≢◌, ◌^◌, All, IsUtf8, length, slice_range, slice_index_or, IfOk, IfErr, OnOk, Some, None};
+ghost use Rattle.std.specs.Prelude.{◌≡◌, ◌<◌, ◌≤◌, ◌≢◌, ◌^◌, [], All, IsUtf8, length, slice_range, slice_index_or, IfOk, IfErr, OnOk, Some, None};
 ghost use Rattle.lic_norm.specs.Spans.{AreSpans, AreTokenTexts};
 
 use crate::fault::TextFault;
 use crate::reader::Reader;
+use crate::reader::line_tokens::LineBuffers;
 use crate::refusal::check_length;
 use crate::rewriting::token_list::TokenList;
 use crate::token::{Span, Token};
@@ -19,6 +20,8 @@ use std::marker::Model;
 pub struct Text {
     source: Vec<u8>,
     tokens: TokenList,
+    /// What a text that is read in this one's memory is read with.
+    buffers: LineBuffers,
 }
 
 impl Model for Text {
@@ -35,7 +38,7 @@ impl Model for Text {
 impl Text {
     ghost use Rattle.lic_kind.specs.LineRules.{rules_of};
     ghost use Rattle.lic_norm.specs.Places.{place_end, place_start, texts_of};
-    ghost use Rattle.lic_norm.specs.Reading.{HasReadLines};
+    ghost use Rattle.lic_norm.specs.Reading.{HasRead, HasReadLines};
     ghost use Rattle.lic_norm.specs.Refusal.{refusal_of};
     ghost use Rattle.lic_norm.specs.Tokens.{tokens_of};
     ghost use Rattle.lic_norm.specs.Spans.{AreSpans, AreTokenTexts, IsTokenText};
@@ -68,7 +71,8 @@ impl Text {
         ensures long { (fault : _) → refusal_of source.items ≡ Some fault → result ≡ Err fault }
     {
         check_length(source.as_slice())?;
-        let mut reader = Reader::new(alloc, source, words, rules);
+        let (tokens, buffers) = (TokenList::new(alloc), LineBuffers::new(alloc));
+        let mut reader = Reader::new(alloc, source, tokens, buffers, words, rules);
         reader.take_lines(0)?;
         Ok(Text::of(reader, words)?)
     }
@@ -84,9 +88,37 @@ impl Text {
         ensures spans { IfOk result (λ t. AreSpans t.source t.tokens) }
         ensures words { IfOk result (λ t. AreTokenTexts t.tokens) }
     {
-        let (source, tokens) = reader.finish()?;
+        let (source, tokens, buffers) = reader.finish()?;
         spellings_are_token_texts(words);
-        Ok(Text { source, tokens })
+        Ok(Text {
+            source,
+            tokens,
+            buffers,
+        })
+    }
+
+    /// A reader of which nothing is read yet, in the memory of this text.
+    pub(crate) fn into_reader<'w>(
+        self,
+        alloc: Global,
+        words: &'w Words,
+        rules: &'w Rules,
+    ) -> Reader<'w>
+        ensures read { HasRead result }
+        ensures source { result.source.items ≡ [] }
+        ensures start { result.line_start ≡ 0 }
+        ensures tokens { result.rewriting.tokens ≡ [] }
+        ensures words { result.rewriting.phrases.now.phrases ≡ words.now }
+        ensures rules { result.rules.now ≡ rules.now }
+    {
+        let Text {
+            mut source,
+            mut tokens,
+            buffers,
+        } = self;
+        source.clear();
+        tokens.clear();
+        Reader::new(alloc, source, tokens, buffers, words, rules)
     }
 
     /// How many tokens there are.

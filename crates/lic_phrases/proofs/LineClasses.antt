@@ -23,8 +23,8 @@ line_begun lines heads line some within known =
     subst (λ l. AreRepresentatives (lines ++ l ∷ []) heads) (sym (take_one line some))
     (first_phrase lines heads (get_or line 0 0) known within)
 
-pub line_goes_on : (lines : List (List ℕ)) (heads line : List ℕ) (k : ℕ) → 0 < k → k < length line → get_or line k 0 < length heads
+pub line_continues : (lines : List (List ℕ)) (heads line : List ℕ) (k : ℕ) → 0 < k → k < length line → get_or line k 0 < length heads
     → AreRepresentatives (lines ++ take k line ∷ []) heads → AreRepresentatives (lines ++ take (k + 1) line ∷ []) (classes_joined heads (get_or line 0 0) (get_or line k 0))
-line_goes_on lines heads line k some within bound known =
+line_continues lines heads line k some within bound known =
     subst (λ l. AreRepresentatives (lines ++ l ∷ []) (classes_joined heads (get_or line 0 0) (get_or line k 0))) (sym (take_more line k within))
     (next_phrase lines (take k line) heads (get_or line 0 0) (get_or line k 0) known (has_first line k some (omega arith)) bound)

@@ -88,12 +88,12 @@ less_one : (n : ℕ) → suc n - 1 ≡ n
 less_one n = omega arith
 
 -- what is left of the tokens after the first
-left_behind : (spellings : List (List ℕ)) (found : Option Found) (t : FirstToken) (items : List FirstToken)
+left_after : (spellings : List (List ℕ)) (found : Option Found) (t : FirstToken) (items : List FirstToken)
     → IfSome found (λ f. (0 < f.count) × (f.count ≤ suc (length items)))
     → drop (count_after (option_map (phrase_found spellings (tokens_in (t ∷ items))) found)) (tokens_in items)
     ≡ tokens_in (drop (count_found found) (t ∷ items))
-left_behind spellings None t items within = refl
-left_behind spellings (Some f) t items within = by f.count within
+left_after spellings None t items within = refl
+left_after spellings (Some f) t items within = by f.count within
   where
     by : (count : ℕ) → (0 < count) × (count ≤ suc (length items))
         → drop (length (take count (texts_of (tokens_in (t ∷ items)))) - 1) (tokens_in items)
@@ -140,7 +140,7 @@ GivesMore-first list at_end given (t ∷ items) first most found given' items' s
     ∙ ap (λ l. map (spanned_in list.spellings) given ++ l) (ap first_of (sym longest))
     ∙ sym (append_assoc (map (spanned_in list.spellings) given) (first_given list.spellings found (token_in t ∷ ts))
     (rest_of (drop (count_after (option_map (phrase_found list.spellings (token_in t ∷ ts)) found)) ts)))
-    ∙ ap₂ (λ a b. a ++ rest_of b) (sym more) (left_behind list.spellings found t items within_all ∙ sym (ap tokens_in left))
+    ∙ ap₂ (λ a b. a ++ rest_of b) (sym more) (left_after list.spellings found t items within_all ∙ sym (ap tokens_in left))
   where
     weaker : (o : Option Found) (m n : ℕ) → m ≤ n → IfSome o (λ f. (0 < f.count) × (f.count ≤ m)) → IfSome o (λ f. (0 < f.count) × (f.count ≤ n))
     weaker None m n le h = tt

@@ -33,7 +33,7 @@ texts_of-settled spellings (t ∷ ts) = ap (λ l. (spanned_in spellings t).text 
 -- ---- a phrase is no line
 
 abbrev pub inside : LinePart
-inside = record { has_front = false; has_end = false; behind = None }
+inside = record { has_front = false; has_end = false; past = None }
 
 -- from a part of a line without its front and its end nothing is taken
 pub line_cells-inside : (rules : LineRules) (line : List SourceChar) → line_cells rules inside line ≡ map cell_of line

@@ -15,9 +15,9 @@ get_before [] ys k d h = absurd (omega arith)
 get_before (x ∷ xs) ys zero d h = refl
 get_before (x ∷ xs) ys (suc k) d h = get_before xs ys k d (omega arith)
 
-get_behind : {A : Type 0} (xs : List A) (y d : A) → get_or (xs ++ y ∷ []) (length xs) d ≡ y
-get_behind [] y d = refl
-get_behind (x ∷ xs) y d = get_behind xs y d
+get_after : {A : Type 0} (xs : List A) (y d : A) → get_or (xs ++ y ∷ []) (length xs) d ≡ y
+get_after [] y d = refl
+get_after (x ∷ xs) y d = get_after xs y d
 
 map_alike : {A : Type 0} {B : Type 0} (f g : A → B) (xs : List A) → ((x : A) → Contains xs x → f x ≡ g x) → map f xs ≡ map g xs
 map_alike f g [] alike = refl
@@ -70,7 +70,7 @@ module _ {A : Type 0} (d : A) (lines : List (List A)) (line : List A) (keys : Li
     longer = length-append keys (p ∷ [])
 
     is_last : (i : ℕ) → i < length (keys ++ p ∷ []) → length keys ≤ i → key' i ≡ p
-    is_last i h l = ap key' (let e : i ≡ length keys = omega (arith, longer) in e) ∙ get_behind keys p d
+    is_last i h l = ap key' (let e : i ≡ length keys = omega (arith, longer) in e) ∙ get_after keys p d
 
     pub read_new : HasRead d lines (line ++ p ∷ []) (keys ++ p ∷ []) (heads ++ length heads ∷ []) (line_numbers ++ length keys ∷ [])
     read_new = record {
@@ -82,7 +82,7 @@ module _ {A : Type 0} (d : A) (lines : List (List A)) (line : List A) (keys : Li
           ∙ known.named;
       line_named =
           map-append key' line_numbers (length keys ∷ [])
-          ∙ ap₂ (λ a b. a ++ b ∷ []) (map_alike key' key line_numbers (λ x has. stays_named x (line_below x has)) ∙ known.line_named) (get_behind keys p d);
+          ∙ ap₂ (λ a b. a ++ b ∷ []) (map_alike key' key line_numbers (λ x has. stays_named x (line_below x has)) ∙ known.line_named) (get_after keys p d);
       classes = new_phrase known.numbers heads known.classes;
       as_many = omega (arith, known.as_many, length-append heads (length heads ∷ []), longer);
       distinct = λ i j hi hj e. elim (cases_lt i (length keys)) [

@@ -61,8 +61,8 @@ length-left_of words kept =
     )
 
 -- two lists that are the same are so after any prefix
-pub behind_front : (front xs ys xs' ys' : List SpannedText) → xs ++ xs' ≡ ys ++ ys' → (front ++ xs) ++ xs' ≡ (front ++ ys) ++ ys'
-behind_front front xs ys xs' ys' same = append_assoc front xs xs' ∙ ap (λ l. front ++ l) same ∙ sym (append_assoc front ys ys')
+pub after_front : (front xs ys xs' ys' : List SpannedText) → xs ++ xs' ≡ ys ++ ys' → (front ++ xs) ++ xs' ≡ (front ++ ys) ++ ys'
+after_front front xs ys xs' ys' same = append_assoc front xs xs' ∙ ap (λ l. front ++ l) same ∙ sym (append_assoc front ys ys')
 
 pub length-held : (o : Option FirstToken) → length (held o) ≤ 1
 length-held None = omega arith
@@ -74,13 +74,13 @@ length-held (Some t) = omega arith
 pub Settles-short : (words : List Phrase) (taken : List Token) (settled : List SpannedText) (kept : Kept)
     → ((rest : List Token) → rewritten words (taken ++ rest) ≡ settled ++ left_of words kept rest) → IsShort kept
     → Settles words taken settled kept
-Settles-short words taken settled kept goes_on short = record {
-  goes_on = goes_on;
+Settles-short words taken settled kept continues short = record {
+  continues = continues;
   short = short;
   nearly_all = omega (
     arith,
     ap (λ l. length (rewritten words l)) (append-nil taken),
-    ap length (goes_on []),
+    ap length (continues []),
     length-append settled (left_of words kept []),
     length-left_of words kept,
     short.sign,
@@ -100,7 +100,7 @@ Settles-more words taken settled settled' kept kept' t sequences before sign_eq 
     Settles-short words (taken ++ t ∷ []) settled' kept'
     (λ rest.
     ap (rewritten words) (append_assoc taken (t ∷ []) rest)
-    ∙ before.goes_on (t ∷ rest)
+    ∙ before.continues (t ∷ rest)
     ∙ ap (λ l. settled ++ left_of_sequences words kept l) (sign_eq rest)
     ∙ gives (sign_sequences (kept'.sign ++ rest)))
     short
@@ -114,11 +114,11 @@ GivesSequences-both words given given' given'' kept kept' kept'' sequences more 
     ∙ second rest
 
 -- what was given before stays in front
-pub GivesSequences-behind : (words : List Phrase) (front given given' : List SpannedText) (kept kept' : Kept)
+pub GivesSequences-past : (words : List Phrase) (front given given' : List SpannedText) (kept kept' : Kept)
     (sequences : List Token) → GivesSequences words given kept sequences given' kept'
     → GivesSequences words (front ++ given) kept sequences (front ++ given') kept'
-GivesSequences-behind words front given given' kept kept' sequences gives =
-    λ rest. behind_front front given given' (left_of_sequences words kept (sequences ++ rest)) (left_of_sequences words kept' rest)
+GivesSequences-past words front given given' kept kept' sequences gives =
+    λ rest. after_front front given given' (left_of_sequences words kept (sequences ++ rest)) (left_of_sequences words kept' rest)
     (gives rest)
 
 -- a token that is no `https` goes straight on where none waits before it
@@ -128,16 +128,16 @@ pub GivesSequences-plain : (list : PhraseList) (given given' : List FinalToken) 
     (map (spanned_in list.spellings) given') (record { sign = sign; address = []; phrase = tokens_in waiting' })
 GivesSequences-plain list given given' waiting waiting' sequence sign other more = λ rest.
     let old = map (spanned_in list.spellings) given in
-    let behind = https_as_http rest in
+    let past = https_as_http rest in
     ap (λ l. old ++ map spanned (phrases_joined list.phrases (tokens_in waiting ++ l))) (https_as_http-other (token_in sequence) rest other)
     ∙ ap (λ l. old ++ map spanned (phrases_joined list.phrases l))
-    (sym (append_assoc (tokens_in waiting) (token_in sequence ∷ []) behind)
-    ∙ ap (λ l. l ++ behind) (sym (map-append token_in waiting (sequence ∷ []))))
-    ∙ more behind (λ e. absurd (false≢true e))
+    (sym (append_assoc (tokens_in waiting) (token_in sequence ∷ []) past)
+    ∙ ap (λ l. l ++ past) (sym (map-append token_in waiting (sequence ∷ []))))
+    ∙ more past (λ e. absurd (false≢true e))
 
 pub Settles-new : (words : List Phrase) → Settles words [] [] nothing_kept
 Settles-new words = record {
-  goes_on = λ rest. refl;
+  continues = λ rest. refl;
   short = record { sign = omega arith; address = omega arith; phrase = omega arith };
   nearly_all = omega arith;
 }
@@ -160,7 +160,7 @@ pub Settles-end : (words : List Phrase) (taken : List Token) (settled settled' s
 Settles-end words taken settled settled' settled'' kept kept' waiting before gives short gathered given =
     sym
     (ap (rewritten words) (sym (append-nil taken))
-    ∙ before.goes_on []
+    ∙ before.continues []
     ∙ ap (λ l. settled ++ left_of_sequences words kept l) (sign_sequences-one kept.sign before.short.sign)
     ∙ gives []
     ∙ ap (λ l. settled' ++ map spanned (phrases_joined words (kept'.phrase ++ https_as_http l))) (append-nil kept'.address)
@@ -193,9 +193,9 @@ Settles-alone words t settled taken no_sign no_https some bound before =
     Settles-more words taken settled (settled ++ one) nothing_kept nothing_kept t (t ∷ []) before
     (λ rest. sign_sequences-other t rest no_sign)
     (λ rest.
-    let behind = https_as_http rest in
-    let none : longest_phrase words (t ∷ behind) ≡ None = longest_phrase-none words (t ∷ behind) some (StandWithin-from 0 words t behind some bound) in
+    let past = https_as_http rest in
+    let none : longest_phrase words (t ∷ past) ≡ None = longest_phrase-none words (t ∷ past) some (StandWithin-from 0 words t past some bound) in
     ap (λ l. settled ++ map spanned (phrases_joined words l)) (https_as_http-other t rest no_https)
-    ∙ ap (λ phrase. settled ++ map spanned (first_as phrase t behind ∷ phrases_after words (count_after phrase) behind)) none
+    ∙ ap (λ phrase. settled ++ map spanned (first_as phrase t past ∷ phrases_after words (count_after phrase) past)) none
     ∙ sym (append_assoc settled one (left_of_sequences words nothing_kept rest)))
     (record { sign = omega arith; address = omega arith; phrase = omega arith })

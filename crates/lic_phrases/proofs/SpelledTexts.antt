@@ -31,7 +31,7 @@ no_blank_inside (c ∷ front) rest known = no_blank_inside front rest known.1
 
 -- a blank that comes after a text without one
 blank_after : (text tail front rest : List ℕ) → HasNoBlank text → text ++ tail ≡ front ++ 0x20 ∷ rest
-    → (behind : List ℕ) × (front ≡ text ++ behind) × (tail ≡ behind ++ 0x20 ∷ rest)
+    → (past : List ℕ) × (front ≡ text ++ past) × (tail ≡ past ++ 0x20 ∷ rest)
 blank_after [] tail front rest known same = (front, refl, same)
 blank_after (c ∷ text) tail [] rest known same = absurd (known.0 (ap (λ l. get_or l 0 0) same))
 blank_after (c ∷ text) tail (d ∷ front) rest known same =
@@ -44,15 +44,15 @@ first_of_front : (xs ys : List ℕ) → IsTrue (first_is_word xs) → IsTrue (fi
 first_of_front [] ys word = absurd (let h : false ≡ true = word in cc)
 first_of_front (x ∷ xs) ys word = word
 
-ends_behind : (text behind : List ℕ) → IsUtf8 text → IsTrue (ends_in_word behind) → IsTrue (ends_in_word (text ++ behind))
-ends_behind text behind utf8 word =
-    subst (λ l. IsTrue (first_is_word l)) (sym (ap reverse (chars-append text behind utf8) ∙ reverse-append (chars text) (chars behind)))
-    (first_of_front (reverse (chars behind)) (reverse (chars text)) word)
+ends_after : (text past : List ℕ) → IsUtf8 text → IsTrue (ends_in_word past) → IsTrue (ends_in_word (text ++ past))
+ends_after text past utf8 word =
+    subst (λ l. IsTrue (first_is_word l)) (sym (ap reverse (chars-append text past utf8) ∙ reverse-append (chars text) (chars past)))
+    (first_of_front (reverse (chars past)) (reverse (chars text)) word)
 
-begins_before : (text behind : List ℕ) → IsUtf8 text → IsTrue (begins_in_word text) → IsTrue (begins_in_word (text ++ behind))
-begins_before text behind utf8 word =
-    subst (λ l. IsTrue (first_is_word l)) (sym (chars-append text behind utf8))
-    (first_of_front (chars text) (chars behind) word)
+begins_before : (text past : List ℕ) → IsUtf8 text → IsTrue (begins_in_word text) → IsTrue (begins_in_word (text ++ past))
+begins_before text past utf8 word =
+    subst (λ l. IsTrue (first_is_word l)) (sym (chars-append text past utf8))
+    (first_of_front (chars text) (chars past) word)
 
 spelled_begins : (text : List ℕ) (texts : List (List ℕ)) → IsUtf8 text → IsTrue (begins_in_word text) → IsTrue (begins_in_word (spelled (text ∷ texts)))
 spelled_begins text [] utf8 word = word
@@ -67,21 +67,21 @@ blank_utf8 = subst IsUtf8 (encode_ascii 0x20 (omega arith)) (IsUtf8-encode 0x20 
 beside_blank : (text next : List ℕ) (texts : List (List ℕ)) (rest : List ℕ) → IsUtf8 text → IsUtf8 next
     → IsTokenText (spelled (next ∷ texts)) → (parted : Bool)
     → (parted ≡ true → IsTrue (ends_in_word text) × IsTrue (begins_in_word next))
-    → (behind : List ℕ) → blank_if parted ++ spelled (next ∷ texts) ≡ behind ++ 0x20 ∷ rest
-    → IsTrue (ends_in_word (text ++ behind)) × IsTrue (begins_in_word rest)
+    → (past : List ℕ) → blank_if parted ++ spelled (next ∷ texts) ≡ past ++ 0x20 ∷ rest
+    → IsTrue (ends_in_word (text ++ past)) × IsTrue (begins_in_word rest)
 beside_blank text next texts rest utf8 next_utf8 later true words [] same = (
   subst (λ l. IsTrue (ends_in_word l)) (sym (append-nil text)) (words refl).0,
   subst (λ l. IsTrue (begins_in_word l)) (ap (drop 1) same) (spelled_begins next texts next_utf8 (words refl).1),
 )
-beside_blank text next texts rest utf8 next_utf8 later true words (d ∷ behind) same =
-    let beside = later.blanks behind rest (ap (drop 1) same) in (
-      subst (λ c. IsTrue (ends_in_word (text ++ c ∷ behind))) (ap (λ l. get_or l 0 0) same)
-          (ends_behind text (0x20 ∷ behind) utf8 (ends_behind (0x20 ∷ []) behind blank_utf8 beside.0)),
+beside_blank text next texts rest utf8 next_utf8 later true words (d ∷ past) same =
+    let beside = later.blanks past rest (ap (drop 1) same) in (
+      subst (λ c. IsTrue (ends_in_word (text ++ c ∷ past))) (ap (λ l. get_or l 0 0) same)
+          (ends_after text (0x20 ∷ past) utf8 (ends_after (0x20 ∷ []) past blank_utf8 beside.0)),
       beside.1,
     )
-beside_blank text next texts rest utf8 next_utf8 later false words behind same =
-    let beside = later.blanks behind rest same in
-    (ends_behind text behind utf8 beside.0, beside.1)
+beside_blank text next texts rest utf8 next_utf8 later false words past same =
+    let beside = later.blanks past rest same in
+    (ends_after text past utf8 beside.0, beside.1)
 
 spelled_text : (text : List ℕ) (texts : List (List ℕ)) → AreSolid (text ∷ texts) → AreUtf8 (text ∷ texts) → IsTokenText (spelled (text ∷ texts))
 spelled_text text [] solid utf8 = record {

@@ -56,9 +56,9 @@ ReadsLine old old_heads new new_heads line =
 
 -- none of these phrases of a line is at fault, and so many come before and after them
 abbrev pub HasNoFault : List (List (List ℕ)) → ℕ → ℕ → Type 0
-HasNoFault line before behind =
+HasNoFault line before past =
     (number : ℕ) (later : List (ℕ × List (List ℕ)))
-    → fault_from before (map (λ phrase. (number, phrase)) line ++ later) ≡ fault_from behind later
+    → fault_from before (map (λ phrase. (number, phrase)) line ++ later) ≡ fault_from past later
 
 -- the first of these phrases that is at fault has this cause
 abbrev pub HasFault : List (List (List ℕ)) → ℕ → WordsCause → Type 0

@@ -38,7 +38,7 @@ GivesSequences words given kept sequences given' kept' =
 -- settled ones begin the tokens of every text that begins so. Little is kept, and so at most 11 tokens of the text so far
 -- are not settled.
 pub record Settles (words : List Phrase) (taken : List Token) (settled : List SpannedText) (kept : Kept) : Type 0 where
-  pub goes_on : (rest : List Token) → rewritten words (taken ++ rest) ≡ settled ++ left_of words kept rest
+  pub continues : (rest : List Token) → rewritten words (taken ++ rest) ≡ settled ++ left_of words kept rest
   pub short : IsShort kept
   pub nearly_all : length (rewritten words taken) ≤ length settled + 11
 

@@ -48,16 +48,16 @@ fn first_tokens(alloc: Global, phrase: &str) -> Result<Vec<FirstToken>, AllocErr
         ≡ tokens_of_cells profile (map cell_of (without_dropped (unplaced (chars phrase.now))))) }
 {
     let rules = Rules::profile(alloc);
-    let mut room = Buffers::new(alloc);
-    tokens_inside(alloc, &rules, phrase, &mut room)
+    let mut buffers = Buffers::new(alloc);
+    tokens_inside(alloc, &rules, phrase, &mut buffers)
 }
 
-/// The tokens of a text inside of a line, with each copyright sign by itself. The room may hold anything.
+/// The tokens of a text inside of a line, with each copyright sign by itself. The buffer may hold anything.
 fn tokens_inside(
     alloc: Global,
     rules: &Rules,
     text: &str,
-    room: &mut Buffers,
+    buffers: &mut Buffers,
 ) -> Result<Vec<FirstToken>, AllocError>
     ensures { IfOk result (λ tokens. tokens_in tokens.items ≡ tokens_of_cells (rules_of rules.now)
         (map cell_of (without_dropped (unplaced (chars text.now))))) }
@@ -67,10 +67,10 @@ fn tokens_inside(
     let inside = LinePart {
         has_front: false,
         has_end: false,
-        behind: None,
+        past: None,
     };
     let mut tokens = Vec::new(alloc);
-    push_tokens_of_line(alloc, rules, inside, &characters, room, &mut tokens)?;
+    push_tokens_of_line(alloc, rules, inside, &characters, buffers, &mut tokens)?;
     Ok(tokens)
 }
 

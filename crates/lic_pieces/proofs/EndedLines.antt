@@ -60,7 +60,7 @@ all_ended (x ∷ xs) feed is =
 part-ended : (before : Next) (front : List SourceChar) (feed : SourceChar) (line : List SourceChar) → line ≡ front ++ feed ∷ [] → feed.char ≡ 0x0A
     → part_of true before line ≡ whole_line
 part-ended before front feed line is feeds =
-    cond-true (ends_in_feed line) whole_line (record { has_front = true; has_end = is_line_end before; behind = counts_as before })
+    cond-true (ends_in_feed line) whole_line (record { has_front = true; has_end = is_line_end before; past = counts_as before })
     (ap ends_in_feed is ∙ feed_last front feed feeds)
 
 cells-ended : (rules : LineRules) (before : Next) (lines others : List (List SourceChar)) → AllEnded lines
@@ -99,35 +99,35 @@ module _ (rules : LineRules) {A : Type 0} (made : List Cell → List A)
       ∙ parts blank.0 later
       ∙ ap (λ l. made l ++ made later) (sym blank.1)
 
-  ended_bytes_made : (text lines front behind : List ℕ) → text ≡ lines ++ behind → IsUtf8 lines → chars lines ≡ front ++ 0x0A ∷ []
+  ended_bytes_made : (text lines front past : List ℕ) → text ≡ lines ++ past → IsUtf8 lines → chars lines ≡ front ++ 0x0A ∷ []
       → made (cells_of_lines rules true before (lines_of (without_dropped (unplaced (chars text)))))
-      ≡ made (cells_of rules (unplaced (chars lines))) ++ made (cells_of_lines rules true before (lines_of (without_dropped (unplaced (chars behind)))))
-  ended_bytes_made text lines front behind cut utf8 is =
+      ≡ made (cells_of rules (unplaced (chars lines))) ++ made (cells_of_lines rules true before (lines_of (without_dropped (unplaced (chars past)))))
+  ended_bytes_made text lines front past cut utf8 is =
       let feed : SourceChar = record { char = 0x0A; start = 0; end = 0 } in
-      let ys = unplaced (chars behind) in
+      let ys = unplaced (chars past) in
       let here : unplaced (chars lines) ≡ unplaced front ++ feed ∷ [] = ap unplaced is ∙ map-append _ front (0x0A ∷ []) in
       let all : unplaced (chars text) ≡ unplaced front ++ feed ∷ ys =
-      ap (λ t. unplaced (chars t)) cut ∙ ap unplaced (chars-append lines behind utf8) ∙ map-append _ (chars lines) (chars behind)
+      ap (λ t. unplaced (chars t)) cut ∙ ap unplaced (chars-append lines past utf8) ∙ map-append _ (chars lines) (chars past)
       ∙ ap (λ l. l ++ ys) here ∙ append_assoc (unplaced front) (feed ∷ []) ys in
       ap (λ l. made (cells_of_lines rules true before (lines_of (without_dropped l)))) all
       ∙ ended_made (unplaced front) feed ys refl
       ∙ ap (λ l. made (cells_of rules l) ++ made (cells_of_lines rules true before (lines_of (without_dropped ys)))) (sym here)
 
 -- The list of a piece is that of such lines and that of what follows them.
-pub piece_cells-ended : (rules : LineRules) (before : Next) (text lines front behind : List ℕ) → text ≡ lines ++ behind → IsUtf8 lines
+pub piece_cells-ended : (rules : LineRules) (before : Next) (text lines front past : List ℕ) → text ≡ lines ++ past → IsUtf8 lines
     → chars lines ≡ front ++ 0x0A ∷ []
-    → piece_cells rules true before text ≡ streaks_joined rules (cells_of rules (unplaced (chars lines))) ++ piece_cells rules true before behind
+    → piece_cells rules true before text ≡ streaks_joined rules (cells_of rules (unplaced (chars lines))) ++ piece_cells rules true before past
 unfolding piece_cells
-piece_cells-ended rules before text lines front behind cut utf8 is =
-    ended_bytes_made rules (streaks_joined rules) (streaks-blank rules) before text lines front behind cut utf8 is
+piece_cells-ended rules before text lines front past cut utf8 is =
+    ended_bytes_made rules (streaks_joined rules) (streaks-blank rules) before text lines front past cut utf8 is
 
 -- So are its tokens.
-pub piece_tokens-ended : (rules : LineRules) (before : Next) (text lines front behind : List ℕ) → text ≡ lines ++ behind → IsUtf8 lines
+pub piece_tokens-ended : (rules : LineRules) (before : Next) (text lines front past : List ℕ) → text ≡ lines ++ past → IsUtf8 lines
     → chars lines ≡ front ++ 0x0A ∷ []
-    → piece_tokens rules true before text ≡ tokens_of_cells rules (cells_of rules (unplaced (chars lines))) ++ piece_tokens rules true before behind
+    → piece_tokens rules true before text ≡ tokens_of_cells rules (cells_of rules (unplaced (chars lines))) ++ piece_tokens rules true before past
 unfolding piece_cells piece_tokens
-piece_tokens-ended rules before text lines front behind cut utf8 is =
-    ended_bytes_made rules (tokens_of_cells rules) (tokens_of_cells-blank rules) before text lines front behind cut utf8 is
+piece_tokens-ended rules before text lines front past cut utf8 is =
+    ended_bytes_made rules (tokens_of_cells rules) (tokens_of_cells-blank rules) before text lines front past cut utf8 is
 
 -- ---- where they are has no effect
 
@@ -217,23 +217,23 @@ some_token cells (suc n) long = lt-ltb 0 (suc n) (omega arith) ∙ ap not (sym (
 -- ---- a text of ASCII
 
 -- the tokens of such lines, without their places
-pub ended_tokens : (rules : LineRules) (before : Next) (text lines front behind : List ℕ) → text ≡ lines ++ behind → IsUtf8 lines → IsAscii lines
+pub ended_tokens : (rules : LineRules) (before : Next) (text lines front past : List ℕ) → text ≡ lines ++ past → IsUtf8 lines → IsAscii lines
     → lines ≡ front ++ 0x0A ∷ []
-    → map bare_token (first_tokens_of rules 0 lines) ++ piece_tokens rules true before behind ≡ piece_tokens rules true before text
-ended_tokens rules before text lines front behind cut utf8 ascii is =
+    → map bare_token (first_tokens_of rules 0 lines) ++ piece_tokens rules true before past ≡ piece_tokens rules true before text
+ended_tokens rules before text lines front past cut utf8 ascii is =
     let same = chars-IsAscii lines ascii in
     let cells = cells_of rules (placed 0 lines) in
-    ap (λ ts. map bare_token ts ++ piece_tokens rules true before behind) (sym (first_tokens_of-ascii rules 0 lines utf8 ascii))
-    ∙ ap (λ ts. ts ++ piece_tokens rules true before behind) (sym (tokens_of_cells-unplaced rules lines))
-    ∙ ap (λ cs. tokens_of_cells rules (cells_of rules (unplaced cs)) ++ piece_tokens rules true before behind) (sym same)
-    ∙ sym (piece_tokens-ended rules before text lines front behind cut utf8 (same ∙ is))
+    ap (λ ts. map bare_token ts ++ piece_tokens rules true before past) (sym (first_tokens_of-ascii rules 0 lines utf8 ascii))
+    ∙ ap (λ ts. ts ++ piece_tokens rules true before past) (sym (tokens_of_cells-unplaced rules lines))
+    ∙ ap (λ cs. tokens_of_cells rules (cells_of rules (unplaced cs)) ++ piece_tokens rules true before past) (sym same)
+    ∙ sym (piece_tokens-ended rules before text lines front past cut utf8 (same ∙ is))
 
 -- and their list
-pub ended_cells : (rules : LineRules) (before : Next) (text lines front behind : List ℕ) → text ≡ lines ++ behind → IsUtf8 lines → IsAscii lines
+pub ended_cells : (rules : LineRules) (before : Next) (text lines front past : List ℕ) → text ≡ lines ++ past → IsUtf8 lines → IsAscii lines
     → lines ≡ front ++ 0x0A ∷ []
-    → streaks_joined rules (cells_of rules (unplaced (chars lines))) ++ piece_cells rules true before behind ≡ piece_cells rules true before text
-ended_cells rules before text lines front behind cut utf8 ascii is =
-    sym (piece_cells-ended rules before text lines front behind cut utf8 (chars-IsAscii lines ascii ∙ is))
+    → streaks_joined rules (cells_of rules (unplaced (chars lines))) ++ piece_cells rules true before past ≡ piece_cells rules true before text
+ended_cells rules before text lines front past cut utf8 ascii is =
+    sym (piece_cells-ended rules before text lines front past cut utf8 (chars-IsAscii lines ascii ∙ is))
 
 -- ---- lines at the start of a text
 

@@ -135,13 +135,13 @@ lines-front : (rules : LineRules) (blank : Bool) (here : List SourceChar) (other
 lines-front rules blank [] others begin = absurd (no_begin rules blank begin)
 lines-front rules blank (s ∷ here) others begin = front-by rules blank (line_cells rules whole_line (s ∷ here)) (flat_map (line_cells rules whole_line) others) begin
 
-pub text-front : (rules : LineRules) (blank : Bool) (text first behind : List ℕ) → IsAscii first → text ≡ first ++ behind → IsFirstLine first behind
+pub text-front : (rules : LineRules) (blank : Bool) (text first past : List ℕ) → IsAscii first → text ≡ first ++ past → IsFirstLine first past
     → BeginAs blank (line_cells rules whole_line (unplaced first)) → begins_in_blank (streaks_joined rules (cells_of rules (unplaced text))) ≡ blank
-text-front rules blank text first behind ascii parts line begin =
+text-front rules blank text first past ascii parts line begin =
     ap (λ l. begins_in_blank (streaks_joined rules (flat_map (line_cells rules whole_line) l)))
-    (ap (λ t. lines_of (without_dropped t)) (ap unplaced parts ∙ map-append _ first behind)
-    ∙ lines_of-first (unplaced first) (unplaced behind) first behind line (chars_of-unplaced first) (λ e. ap unplaced e))
-    ∙ lines-front rules blank (without_dropped (unplaced first)) (lines_of (without_dropped (unplaced behind)))
+    (ap (λ t. lines_of (without_dropped t)) (ap unplaced parts ∙ map-append _ first past)
+    ∙ lines_of-first (unplaced first) (unplaced past) first past line (chars_of-unplaced first) (λ e. ap unplaced e))
+    ∙ lines-front rules blank (without_dropped (unplaced first)) (lines_of (without_dropped (unplaced past)))
     (subst (λ l. BeginAs blank (line_cells rules whole_line l)) (sym (kept-ascii first ascii)) begin)
 
 -- ---- the edges of lines that end in U+000A

@@ -18,7 +18,7 @@ use Rattle.lic_lines.specs.Cells.{cells_of_cut, line_cells}
 use Rattle.lic_lines.specs.Streaks.{streaks_joined}
 use Rattle.lic_lines.specs.Tokens.{Token, line_tokens, tokens_of_cells}
 use Rattle.lic_lines.proofs.Gaps.{no_streaks, streaks_joined-gap}
-use Rattle.lic_trim.proofs.ItemLemmas.{char_of, item_none, few_behind}
+use Rattle.lic_trim.proofs.ItemLemmas.{char_of, item_none, few_after}
 use Rattle.lic_lines.proofs.LineByLine.{line_ends, tokens_of_cells-blank}
 use Rattle.lic_trim.proofs.PieceEnds.{ends_in-snoc}
 use Rattle.lic_pieces.specs.declared.pieces.Next.{Next}
@@ -38,8 +38,8 @@ feed_last front feed is =
     ∙ ends_in-snoc last (λ front. true) (chars_of front) feed.char
     ∙ ap (λ c. last c && true) is
 
-no_item : (rules : LineRules) (c : ℕ) → cells_of_cut (cut_of rules (record { has_front = true; has_end = false; behind = Some c }) []) [] ≡ []
-no_item rules c = ap (λ n. cells_of_cut (record { lead = 0; item = n; tail = 0 }) []) (item_none rules [] (c ∷ []) (omega arith) (few_behind (Some c)))
+no_item : (rules : LineRules) (c : ℕ) → cells_of_cut (cut_of rules (record { has_front = true; has_end = false; past = Some c }) []) [] ≡ []
+no_item rules c = ap (λ n. cells_of_cut (record { lead = 0; item = n; tail = 0 }) []) (item_none rules [] (c ∷ []) (omega arith) (few_after (Some c)))
 
 -- a line without characters leaves nothing
 no_cells : (rules : LineRules) (has_front : Bool) (before : Next) → line_cells rules (part_of has_front before []) [] ≡ []
@@ -53,17 +53,17 @@ no_cells rules false Optional = refl
 -- what is made of cells that a blank parts: of those up to it, and of those after it
 module _ (rules : LineRules) {A : Type 0} (made : List Cell → List A) (none : made [] ≡ [])
     (parts : (xs ys : List Cell) → made (xs ++ Blank ∷ ys) ≡ made (xs ++ Blank ∷ []) ++ made ys) (before : Next) where
-  first_line_made : (has_front : Bool) (line rest : List SourceChar) (letters behind : List ℕ)
-      → IsFirstLine letters behind → chars_of line ≡ letters → (behind ≡ [] → rest ≡ [])
+  first_line_made : (has_front : Bool) (line rest : List SourceChar) (letters past : List ℕ)
+      → IsFirstLine letters past → chars_of line ≡ letters → (past ≡ [] → rest ≡ [])
       → made (cells_of_lines rules has_front before (lines_of (without_dropped (line ++ rest))))
       ≡ made (line_cells rules (part_of has_front before (without_dropped line)) (without_dropped line))
       ++ made (cells_of_lines rules true before (lines_of (without_dropped rest)))
-  first_line_made has_front line rest letters behind first same none_behind =
+  first_line_made has_front line rest letters past first same none_after =
       let here = without_dropped line in
       let part = part_of has_front before here in
       let others = lines_of (without_dropped rest) in
       let later = cells_of_lines rules true before others in
-      ap (λ ls. made (cells_of_lines rules has_front before ls)) (lines_of-first line rest letters behind first same none_behind)
+      ap (λ ls. made (cells_of_lines rules has_front before ls)) (lines_of-first line rest letters past first same none_after)
       ∙ elim first.ends [
         | inl ends ↦
             let end = ends_line line first.front (same ∙ ends) in
@@ -72,8 +72,8 @@ module _ (rules : LineRules) {A : Type 0} (made : List Cell → List A) (none : 
             let alone : as_line here ≡ here ∷ [] = ap as_line cut ∙ as_line-some front end.feed ∙ ap (λ l. l ∷ []) (sym cut) in
             let has_end : part.has_end ≡ true =
             ap (λ (p : LinePart). p.has_end)
-            (cond-true (ends_in_feed here) (record { has_front = has_front; has_end = true; behind = None })
-            (record { has_front = has_front; has_end = is_line_end before; behind = counts_as before })
+            (cond-true (ends_in_feed here) (record { has_front = has_front; has_end = true; past = None })
+            (record { has_front = has_front; has_end = is_line_end before; past = counts_as before })
             (ap ends_in_feed cut ∙ feed_last front end.feed end.is_end)) in
             let blank = line_ends rules part front end.feed (ap is_whitespace end.is_end) has_end in
             let cells : line_cells rules part here ≡ blank.0 ++ Blank ∷ [] = ap (line_cells rules part) cut ∙ blank.1 in
@@ -83,7 +83,7 @@ module _ (rules : LineRules) {A : Type 0} (made : List Cell → List A) (none : 
             ∙ parts blank.0 later
             ∙ ap (λ l. made l ++ made later) (sym cells)
         | inr ends ↦
-            let nothing : others ≡ [] = ap (λ r. lines_of (without_dropped r)) (none_behind ends.1) in
+            let nothing : others ≡ [] = ap (λ r. lines_of (without_dropped r)) (none_after ends.1) in
             ap (λ ls. made (cells_of_lines rules has_front before (as_line here ++ ls))) nothing
             ∙ ap (λ ls. made (cells_of_lines rules has_front before ls)) (append-nil (as_line here))
             ∙ only here

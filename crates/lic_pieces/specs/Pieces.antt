@@ -34,8 +34,8 @@ ends_in_feed line = ends_in (λ c. c == 0x0A) (λ front. true) (chars_of line)
 -- What is there of a line of a piece. A line that ends in U+000A has its end, and nothing comes after it; the last one may be cut off by a rule.
 abbrev pub part_of : Bool → Next → List SourceChar → LinePart
 part_of has_front before line =
-    if ends_in_feed line then record { has_front = has_front; has_end = true; behind = None }
-    else record { has_front = has_front; has_end = is_line_end before; behind = counts_as before }
+    if ends_in_feed line then record { has_front = has_front; has_end = true; past = None }
+    else record { has_front = has_front; has_end = is_line_end before; past = counts_as before }
 
 -- the cells of lines of which the first may lack its front
 abbrev pub cells_of_lines : LineRules → Bool → Next → List (List SourceChar) → List Cell

@@ -57,7 +57,7 @@ fn ends_in_feed(line: &[SourceChar]) -> bool
 fn part_of(has_front: bool, before: Next, line: &[SourceChar]) -> LinePart
     ensures { result ≡ part_of has_front before line.now }
 {
-    let (has_end, behind) = if ends_in_feed(line) {
+    let (has_end, past) = if ends_in_feed(line) {
         (true, None)
     } else {
         match before {
@@ -69,7 +69,7 @@ fn part_of(has_front: bool, before: Next, line: &[SourceChar]) -> LinePart
     LinePart {
         has_front,
         has_end,
-        behind,
+        past,
     }
 }
 

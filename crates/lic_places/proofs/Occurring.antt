@@ -8,10 +8,10 @@ use Rattle.lic_places.specs.Places.{Occurs, is_blank_at}
 -- what begins at the place begins with the bytes that are there
 pub Occurs-drop : (bytes : List ℕ) (p : ℕ) (text : List ℕ) (q : ℕ) → Occurs bytes p text q
     → drop p bytes ≡ text ++ drop q bytes
-Occurs-drop bytes p text q stands =
-    let end : p + (q - p) ≡ q = omega (arith, stands.0) in
+Occurs-drop bytes p text q occurs =
+    let end : p + (q - p) ≡ q = omega (arith, occurs.0) in
     sym (take-append-drop (q - p) (drop p bytes))
-    ∙ ap₂ (λ x y. x ++ y) stands.1 (drop-drop (q - p) p bytes ∙ ap (λ n. drop n bytes) end)
+    ∙ ap₂ (λ x y. x ++ y) occurs.1 (drop-drop (q - p) p bytes ∙ ap (λ n. drop n bytes) end)
 
 pub Occurs-from : (bytes : List ℕ) (p : ℕ) (text after : List ℕ) (q : ℕ) → q ≡ p + length text
     → drop p bytes ≡ text ++ after → Occurs bytes p text q
@@ -55,19 +55,19 @@ Occurs-among front text after =
 -- what ends at a place ends with the bytes that come before it
 pub Occurs-take : (bytes : List ℕ) (p : ℕ) (text : List ℕ) (q : ℕ) → Occurs bytes p text q
     → take q bytes ≡ take p bytes ++ text
-Occurs-take bytes p text q stands =
-    ap (λ n. take n bytes) stands.0 ∙ take-add p (length text) bytes
+Occurs-take bytes p text q occurs =
+    ap (λ n. take n bytes) occurs.0 ∙ take-add p (length text) bytes
     ∙ ap (λ l. take p bytes ++ l)
-    (ap (take (length text)) (Occurs-drop bytes p text q stands) ∙ take_at text (drop q bytes) (length text) refl)
+    (ap (take (length text)) (Occurs-drop bytes p text q occurs) ∙ take_at text (drop q bytes) (length text) refl)
 
 -- ---- the first byte
 
 pub Occurs-first : (bytes : List ℕ) (p c : ℕ) (text : List ℕ) (q : ℕ) → Occurs bytes p (c ∷ text) q
     → get_or bytes p 0 ≡ c
-Occurs-first bytes p c text q stands =
+Occurs-first bytes p c text q occurs =
     let at : p ≡ p + 0 = omega arith in
     ap (λ n. get_or bytes n 0) at ∙ sym (get_or-drop p bytes 0 0)
-    ∙ ap (λ l. get_or l 0 0) (Occurs-drop bytes p (c ∷ text) q stands)
+    ∙ ap (λ l. get_or l 0 0) (Occurs-drop bytes p (c ∷ text) q occurs)
 
 is_inside : (bytes : List ℕ) (p : ℕ) → (get_or bytes p 0 ≡ 0 → ⊥) → p < length bytes
 is_inside bytes p some = elim (cases_lt p (length bytes)) [
@@ -76,13 +76,13 @@ is_inside bytes p some = elim (cases_lt p (length bytes)) [
 ]
 
 -- a blank is at a place
-pub blank_stands : (bytes : List ℕ) (p : ℕ) → IsTrue (is_blank_at bytes p) → Occurs bytes p (0x20 ∷ []) (suc p)
-blank_stands bytes p blank =
+pub blank_occurs : (bytes : List ℕ) (p : ℕ) → IsTrue (is_blank_at bytes p) → Occurs bytes p (0x20 ∷ []) (suc p)
+blank_occurs bytes p blank =
     let here : get_or bytes p 0 ≡ 0x20 = eqb-true (get_or bytes p 0) 0x20 blank in
     let within : p < length bytes = is_inside bytes p (λ none. absurd (let e : 0 ≡ 0x20 = sym none ∙ here in omega (arith, e))) in
     Occurs-from bytes p (0x20 ∷ []) (drop (suc p) bytes) (suc p) (omega arith)
     (drop-cons bytes p 0 within ∙ ap (λ c. c ∷ drop (suc p) bytes) here)
 
-pub stands_blank : (bytes : List ℕ) (p : ℕ) (text : List ℕ) (q : ℕ) → Occurs bytes p (0x20 ∷ text) q
+pub occurs_blank : (bytes : List ℕ) (p : ℕ) (text : List ℕ) (q : ℕ) → Occurs bytes p (0x20 ∷ text) q
     → IsTrue (is_blank_at bytes p)
-stands_blank bytes p text q stands = eq-eqb (get_or bytes p 0) 0x20 (Occurs-first bytes p 0x20 text q stands)
+occurs_blank bytes p text q occurs = eq-eqb (get_or bytes p 0) 0x20 (Occurs-first bytes p 0x20 text q occurs)

@@ -18,7 +18,7 @@ use Rattle.lic_places.specs.Places.{AreTexts, IsAfterBlank, OverBlank, Occurs, i
 use Rattle.lic_places.specs.Places.OverBlank.{over, stays}
 use Rattle.lic_places.specs.Reads.{Takes, Reads}
 use Rattle.lic_places.proofs.Spelled.{before, spelled-before, spelled-cut, spelled-front, spelled-from, spelled-utf8, blank_if-utf8}
-use Rattle.lic_places.proofs.Occurring.{Occurs-drop, Occurs-nil, Occurs-append, Occurs-left, Occurs-right, Occurs-take, Occurs-first, blank_stands, stands_blank}
+use Rattle.lic_places.proofs.Occurring.{Occurs-drop, Occurs-nil, Occurs-append, Occurs-left, Occurs-right, Occurs-take, Occurs-first, blank_occurs, occurs_blank}
 use Rattle.lic_places.proofs.TokenPlaces.{length-texts_of, texts_of-utf8, text_token, place_end-is, blank-between}
 
 -- ---- letters
@@ -35,12 +35,12 @@ encode-some c = omega (arith, length-encode c, (len_utf8_bounds c).0)
 
 -- where a letter is whose first byte is a blank, it is a blank
 blank_letter : (bytes : List ℕ) (p c q : ℕ) → Occurs bytes p (encode c) q → IsTrue (is_blank_at bytes p) → c ≡ blank
-blank_letter bytes p c q stands is = by_bytes (encode c) refl
+blank_letter bytes p c q occurs is = by_bytes (encode c) refl
   where
     by_bytes : (bs : List ℕ) → encode c ≡ bs → c ≡ blank
     by_bytes [] e = absurd (omega (arith, encode-some c, ap length e))
     by_bytes (b ∷ bs) e =
-        let here : b ≡ blank = sym (Occurs-first bytes p b bs q (subst (λ l. Occurs bytes p l q) e stands))
+        let here : b ≡ blank = sym (Occurs-first bytes p b bs q (subst (λ l. Occurs bytes p l q) e occurs))
         ∙ eqb-true (get_or bytes p 0) 0x20 is in
         char_from_byte (b ∷ bs) [] c (sym e ∙ sym (append-nil (encode c))) (omega arith) (omega arith) ∙ here
 
@@ -95,12 +95,12 @@ ends-after front text rest c front_utf8 utf8 some is_scalar is =
 letter_before : (texts : List (List ℕ)) (i o c p : ℕ) → i < length texts → p ≡ length (spelled (take (suc i) texts))
     → All IsUtf8 texts → 0 < length (get_or texts i []) → IsScalar c → Occurs (spelled texts) o (encode c) p
     → ends_in_word (get_or texts i []) ≡ is_word c
-letter_before texts i o c p within end utf8 some is_scalar stands =
+letter_before texts i o c p within end utf8 some is_scalar occurs =
     let front = spelled (take (suc i) texts) in
     let cut = spelled-front texts i within in
     let ends : front ≡ take o (spelled texts) ++ encode c =
     sym (take_at front cut.0 p (sym end)) ∙ ap (take p) (sym cut.1)
-    ∙ Occurs-take (spelled texts) o (encode c) p stands in
+    ∙ Occurs-take (spelled texts) o (encode c) p occurs in
     ends-after (before texts i) (get_or texts i []) (take o (spelled texts)) c
     (IsUtf8-append (spelled (take i texts)) (blank_if (is_parted_at texts i))
     (spelled-utf8 (take i texts) (All-take IsUtf8 i texts utf8)) (blank_if-utf8 (is_parted_at texts i)))
@@ -118,12 +118,12 @@ letter_after : (texts : List (List ℕ)) (i p d q : ℕ) → suc i < length text
     → p ≡ length (spelled (take (suc i) texts)) → is_parted_at texts (suc i) ≡ false
     → All IsUtf8 texts → 0 < length (get_or texts (suc i) []) → Occurs (spelled texts) p (encode d) q
     → begins_in_word (get_or texts (suc i) []) ≡ is_word d
-letter_after texts i p d q within end joined utf8 some stands =
+letter_after texts i p d q within end joined utf8 some occurs =
     let from = spelled-from texts (suc i) within in
     let rest = spelled (drop (suc i) texts) in
     let here : rest ≡ encode d ++ drop q (spelled texts) =
     sym (after_end texts i p within end ∙ ap (λ b. blank_if b ++ rest) joined)
-    ∙ Occurs-drop (spelled texts) p (encode d) q stands in
+    ∙ Occurs-drop (spelled texts) p (encode d) q occurs in
     begins-front (get_or texts (suc i) []) from.0 (drop q (spelled texts)) d
     (All-get_or IsUtf8 texts (suc i) [] within utf8) some
     (subst IsUtf8 from.1 (spelled-utf8 (drop (suc i) texts) (All-drop IsUtf8 (suc i) texts utf8)))
@@ -238,8 +238,8 @@ first_read tokens p q (d ∷ cs) word reads = by_case reads.1
 blank_taken : (tokens : List TokenValue) (last o p r q : ℕ) (cs : List ℕ) → AreTexts tokens → IsScalar last
     → Occurs (spelling_of tokens) o (encode last) p → IsTrue (is_word last) → IsTrue (first_is_word cs)
     → OverBlank tokens p r → Reads tokens r cs q → Occurs (spelling_of tokens) p (0x20 ∷ []) r
-blank_taken tokens last o p r q cs are is_scalar stands word next (over is) reads = blank_stands (spelling_of tokens) p is
-blank_taken tokens last o p r q cs are is_scalar stands word next (stays free gap) reads =
+blank_taken tokens last o p r q cs are is_scalar occurs word next (over is) reads = blank_occurs (spelling_of tokens) p is
+blank_taken tokens last o p r q cs are is_scalar occurs word next (stays free gap) reads =
     let first = first_read tokens p q cs next reads in
     let no_blank : IsTrue (is_blank_at (spelling_of tokens) p) → ⊥ =
     λ is. first.3 (blank_letter (spelling_of tokens) p first.0 first.1 first.4 is) in
@@ -247,38 +247,38 @@ blank_taken tokens last o p r q cs are is_scalar stands word next (stays free ga
   where
     no_gap : (d e : ℕ) → IsTrue (is_word d) → Occurs (spelling_of tokens) p (encode d) e
         → (IsTrue (is_blank_at (spelling_of tokens) p) → ⊥) → HasGap tokens p → ⊥
-    no_gap d e second_word second no_blank (inl start) = omega (arith, encode-some last, stands.0, start)
+    no_gap d e second_word second no_blank (inl start) = omega (arith, encode-some last, occurs.0, start)
     no_gap d e second_word second no_blank (inr (inl is)) = no_blank is
     no_gap d e second_word second no_blank (inr (inr ends)) =
-        token_end tokens o last p d e are ends is_scalar word second_word stands second no_blank
+        token_end tokens o last p d e are ends is_scalar word second_word occurs second no_blank
 
 -- one letter
 letter_taken : (tokens : List TokenValue) (last o p c r q : ℕ) (cs : List ℕ) → AreTexts tokens → IsScalar last
     → Occurs (spelling_of tokens) o (encode last) p
     → (c ≡ blank → IsTrue (is_word last) × IsTrue (first_is_word cs))
     → Takes tokens p c r → Reads tokens r cs q → IsScalar c × Occurs (spelling_of tokens) p (encode c) r
-letter_taken tokens last o p c r q cs are is_scalar stands between (inl is) reads =
+letter_taken tokens last o p c r q cs are is_scalar occurs between (inl is) reads =
     let beside = between is.0 in
-    let here = blank_taken tokens last o p r q cs are is_scalar stands beside.0 beside.1 is.1 reads in (
+    let here = blank_taken tokens last o p r q cs are is_scalar occurs beside.0 beside.1 is.1 reads in (
       subst IsScalar (sym is.0) refl,
       subst (λ l. Occurs (spelling_of tokens) p l r) (sym (ap encode is.0 ∙ encode-blank)) here,
     )
-letter_taken tokens last o p c r q cs are is_scalar stands between (inr letter) reads = (letter.1, letter.2)
+letter_taken tokens last o p c r q cs are is_scalar occurs between (inr letter) reads = (letter.1, letter.2)
 
 letters_stand : (tokens : List TokenValue) (last o p q : ℕ) (cs : List ℕ) → AreTexts tokens → IsScalar last
     → Occurs (spelling_of tokens) o (encode last) p → AreBetween last cs → Reads tokens p cs q
     → Occurs (spelling_of tokens) p (encodes cs) q
-letters_stand tokens last o p q [] are is_scalar stands between reads =
+letters_stand tokens last o p q [] are is_scalar occurs between reads =
     subst (λ r. Occurs (spelling_of tokens) p [] r) reads (Occurs-nil (spelling_of tokens) p)
-letters_stand tokens last o p q (c ∷ cs) are is_scalar stands between reads =
-    let taken = letter_taken tokens last o p c reads.0 q cs are is_scalar stands between.0 reads.1 reads.2 in
+letters_stand tokens last o p q (c ∷ cs) are is_scalar occurs between reads =
+    let taken = letter_taken tokens last o p c reads.0 q cs are is_scalar occurs between.0 reads.1 reads.2 in
     Occurs-append (spelling_of tokens) p (encode c) reads.0 (encodes cs) q taken.1
     (letters_stand tokens c p reads.0 q cs are taken.0 taken.1 between.1 reads.2)
 
-pub text_stands : (tokens : List TokenValue) (text : List ℕ) (p q : ℕ) → AreTexts tokens → IsUtf8 text → IsPieceText text
+pub text_occurs : (tokens : List TokenValue) (text : List ℕ) (p q : ℕ) → AreTexts tokens → IsUtf8 text → IsPieceText text
     → 0 < length text → (IsTrue (is_blank_at text 0) → ⊥) → (IsAfterBlank text (length text) → ⊥)
     → Reads tokens p (chars text) q → Occurs (spelling_of tokens) p text q
-text_stands tokens text p q are utf8 piece some start after reads =
+text_occurs tokens text p q are utf8 piece some start after reads =
     subst (λ l. Occurs (spelling_of tokens) p l q) (encodes-chars text utf8) (by_letters (chars text) refl reads)
   where
     by_first : (c : ℕ) (cs : List ℕ) → chars text ≡ c ∷ cs → (r : ℕ) → Takes tokens p c r → Reads tokens r cs q
@@ -301,25 +301,25 @@ text_stands tokens text p q are utf8 piece some start after reads =
 
 letters_read : (tokens : List TokenValue) (p q : ℕ) (cs : List ℕ) → scalars cs ≡ true
     → Occurs (spelling_of tokens) p (encodes cs) q → Reads tokens p cs q
-letters_read tokens p q [] all stands = omega (arith, stands.0)
-letters_read tokens p q (c ∷ cs) all stands =
+letters_read tokens p q [] all occurs = omega (arith, occurs.0)
+letters_read tokens p q (c ∷ cs) all occurs =
     let parts = and_parts (scalar c) (scalars cs) all in
     let bytes = spelling_of tokens in
     let r = p + length (encode c) in
-    let left = Occurs-left bytes p (encode c) (encodes cs) q stands in
-    let right = Occurs-right bytes p (encode c) (encodes cs) q stands in
+    let left = Occurs-left bytes p (encode c) (encodes cs) q occurs in
+    let right = Occurs-right bytes p (encode c) (encodes cs) q occurs in
     elim (cases_eq c blank) [
       | inl is ↦
           let here : Occurs bytes p (0x20 ∷ []) r =
           subst (λ l. Occurs bytes p l r) (ap encode is ∙ encode-blank) left in
           let next : suc p ≡ r = omega (arith, here.0) in
-          let leads = over (stands_blank bytes p [] r here) in
+          let leads = over (occurs_blank bytes p [] r here) in
           (r, inl (is, subst (OverBlank tokens p) next leads), letters_read tokens r q cs parts.1 right)
       | inr other ↦ (r, inr (other, parts.0, left), letters_read tokens r q cs parts.1 right)
     ]
 
 pub text_read : (tokens : List TokenValue) (text : List ℕ) (p q : ℕ) → IsUtf8 text
     → Occurs (spelling_of tokens) p text q → Reads tokens p (chars text) q
-text_read tokens text p q utf8 stands =
+text_read tokens text p q utf8 occurs =
     letters_read tokens p q (chars text) (scalars-chars text utf8)
-    (subst (λ l. Occurs (spelling_of tokens) p l q) (sym (encodes-chars text utf8)) stands)
+    (subst (λ l. Occurs (spelling_of tokens) p l q) (sym (encodes-chars text utf8)) occurs)

@@ -15,7 +15,7 @@ use Rattle.lic_norm.specs.Tokens.{TokenValue}
 use Rattle.lic_norm.specs.Places.{IsTokenEnd}
 use Rattle.lic_places.specs.Places.{IsAfterBlank, spelling_of}
 use Rattle.lic_places.proofs.TieReading.{StandGapped}
-use Rattle.lic_places.proofs.TiePlaces.{drop-on, drop-blank, length-letter, not_behind, has_letter, is_shut_inside, is_needed_before}
+use Rattle.lic_places.proofs.TiePlaces.{drop-on, drop-blank, length-letter, not_after, has_letter, is_shut_inside, is_needed_before}
 
 -- no letter of a word is a blank
 pub word-other : (c : ℕ) → IsTrue (is_word c) → c ≢ blank
@@ -81,7 +81,7 @@ module _ (tokens : List TokenValue) (whole : List ℕ) (apart : AreWordsApart wh
         last_is = last-push front c;
         scalars = (and_parts _ _ at.scalars).1;
         bytes = drop-on (spelling_of tokens) (encode_utf8 c) (encode_utf8_all cs ++ after) p bytes;
-        solid = not_behind (spelling_of tokens) (encode_utf8_all cs ++ after) p c other bytes;
+        solid = not_after (spelling_of tokens) (encode_utf8_all cs ++ after) p c other bytes;
         forward = omega (arith, at.forward);
         stops = omega (arith, at.stops, length-append (encode_utf8 c) (encode_utf8_all cs));
       }
@@ -124,7 +124,7 @@ module _ (tokens : List TokenValue) (whole : List ℕ) (apart : AreWordsApart wh
           last_is = ap first_is_word (reverse-append front (blank ∷ d ∷ []));
           scalars = (and_parts _ _ scalars).1;
           bytes = drop-on (spelling_of tokens) (encode_utf8 d) rest (suc p) next_bytes;
-          solid = not_behind (spelling_of tokens) rest (suc p) d other next_bytes;
+          solid = not_after (spelling_of tokens) rest (suc p) d other next_bytes;
           forward = omega (arith, at.forward);
           stops = omega (arith, at.stops, size, length-append (encode_utf8 d) (encode_utf8_all cs));
         }),
@@ -134,13 +134,13 @@ module _ (tokens : List TokenValue) (whole : List ℕ) (apart : AreWordsApart wh
   goes_blank [] later front last p at = absurd (let none : false ≡ true = (apart.apart front [] at.parts).1 in cc)
   goes_blank (d ∷ cs) later front last p at = goes_over d cs later front last p at
 
-  goes_on : (c : ℕ) (cs : List ℕ) → GoesOn cs → GoesOnAfter cs → (b : Bool) → (c == blank) ≡ b → GoesOn (c ∷ cs)
-  goes_on c cs later after_blank true h =
+  continues : (c : ℕ) (cs : List ℕ) → GoesOn cs → GoesOnAfter cs → (b : Bool) → (c == blank) ≡ b → GoesOn (c ∷ cs)
+  continues c cs later after_blank true h =
       let same : blank ≡ c = sym (eqb-true c blank h) in
       subst (λ x. GoesOn (x ∷ cs)) same (goes_blank cs after_blank)
-  goes_on c cs later after_blank false h = goes_letter c cs later h
+  continues c cs later after_blank false h = goes_letter c cs later h
 
   pub letters_stand : (cs : List ℕ) → GoesOn cs
   letters_stand [] = goes_end
-  letters_stand (c ∷ []) = goes_on c [] goes_end tt (c == blank) refl
-  letters_stand (c ∷ d ∷ cs) = goes_on c (d ∷ cs) (letters_stand (d ∷ cs)) (letters_stand cs) (c == blank) refl
+  letters_stand (c ∷ []) = continues c [] goes_end tt (c == blank) refl
+  letters_stand (c ∷ d ∷ cs) = continues c (d ∷ cs) (letters_stand (d ∷ cs)) (letters_stand cs) (c == blank) refl

@@ -28,8 +28,8 @@ slice-on bytes front rest p is =
 
 -- what is at a place, with the bytes after it
 Occurs-on : (bytes text : List ℕ) (p q : ℕ) → Occurs bytes p text q → drop p bytes ≡ text ++ drop (q - p) (drop p bytes)
-Occurs-on bytes text p q stands =
-    sym (take-append-drop (q - p) (drop p bytes)) ∙ ap (λ x. x ++ drop (q - p) (drop p bytes)) stands.1
+Occurs-on bytes text p q occurs =
+    sym (take-append-drop (q - p) (drop p bytes)) ∙ ap (λ x. x ++ drop (q - p) (drop p bytes)) occurs.1
 
 byte-on : (bytes : List ℕ) (p k : ℕ) → get_or bytes (p + k) 0 ≡ get_or (drop p bytes) k 0
 byte-on bytes p k = sym (get_or-drop p bytes k 0)
@@ -60,9 +60,9 @@ not_at bytes rest p c other is blank_at =
     not_within bytes rest p c 0 other is (length-letter c) (subst (λ x. IsTrue (is_blank_at bytes x)) (sym (add-zero p)) blank_at)
 
 -- no blank comes before the place where another letter ends
-pub not_behind : (bytes rest : List ℕ) (p c : ℕ) → c ≢ blank → drop p bytes ≡ encode_utf8 c ++ rest
+pub not_after : (bytes rest : List ℕ) (p c : ℕ) → c ≢ blank → drop p bytes ≡ encode_utf8 c ++ rest
     → IsAfterBlank bytes (p + length (encode_utf8 c)) → ⊥
-not_behind bytes rest p c other is (k, next, blank_at) =
+not_after bytes rest p c other is (k, next, blank_at) =
     let some = length-letter c in
     let within : length (encode_utf8 c) - 1 < length (encode_utf8 c) = omega arith in
     let last : k ≡ p + (length (encode_utf8 c) - 1) = omega arith in
@@ -75,11 +75,11 @@ pub has_letter : (tokens : List TokenValue) (rest : List ℕ) (p c : ℕ) → c 
 has_letter tokens rest p c other scalar is = record {
   other = other;
   scalar = scalar;
-  stands = (refl, slice-on (spelling_of tokens) (encode_utf8 c) rest p is);
-  only = λ d r d_scalar stands.
+  occurs = (refl, slice-on (spelling_of tokens) (encode_utf8 c) rest p is);
+  only = λ d r d_scalar occurs.
       let after = drop (r - p) (drop p (spelling_of tokens)) in
-      let same = encode_same d c after rest (sym (Occurs-on (spelling_of tokens) (encode_utf8 d) p r stands) ∙ is) in
-      (same.0, stands.0 ∙ ap (λ x. p + length (encode_utf8 x)) same.0);
+      let same = encode_same d c after rest (sym (Occurs-on (spelling_of tokens) (encode_utf8 d) p r occurs) ∙ is) in
+      (same.0, occurs.0 ∙ ap (λ x. p + length (encode_utf8 x)) same.0);
 }
 
 -- ---- gaps
@@ -87,7 +87,7 @@ has_letter tokens rest p c other scalar is = record {
 module _ (tokens : List TokenValue) where
   shut_inside : (p q : ℕ) → (IsTrue (is_blank_at (spelling_of tokens) p) → ⊥) → (HasGap tokens p → ⊥) → OverBlank tokens p q → ⊥
   shut_inside p q no_blank none (over is) = no_blank is
-  shut_inside p q no_blank none (stays not_behind gap) = none gap
+  shut_inside p q no_blank none (stays not_after gap) = none gap
 
   no_gap_inside : (p : ℕ) → (IsTrue (is_blank_at (spelling_of tokens) p) → ⊥) → 0 < p → (IsTokenEnd tokens p → ⊥) → HasGap tokens p → ⊥
   no_gap_inside p no_blank forward inside (inl is) = omega arith
@@ -103,11 +103,11 @@ module _ (tokens : List TokenValue) where
 
   shut_after : (p q : ℕ) → (IsTrue (is_blank_at (spelling_of tokens) p) → ⊥) → IsAfterBlank (spelling_of tokens) p → OverBlank tokens p q → ⊥
   shut_after p q no_blank after_blank (over is) = no_blank is
-  shut_after p q no_blank after_blank (stays not_behind gap) = not_behind after_blank
+  shut_after p q no_blank after_blank (stays not_after gap) = not_after after_blank
 
   only_stays : (p q : ℕ) → (IsTrue (is_blank_at (spelling_of tokens) p) → ⊥) → OverBlank tokens p q → q ≡ p
   only_stays p q no_blank (over is) = absurd (no_blank is)
-  only_stays p q no_blank (stays not_behind gap) = refl
+  only_stays p q no_blank (stays not_after gap) = refl
 
   -- blanks may be at the end of a token before a letter
   pub is_free_before : (rest : List ℕ) (p c : ℕ) → c ≢ blank → drop p (spelling_of tokens) ≡ encode_utf8 c ++ rest
@@ -129,6 +129,6 @@ module _ (tokens : List TokenValue) where
         is_blank = blank_at;
         next = refl;
         shut = record { nowhere = λ q leads. shut_after (suc p) q (not_at bytes rest (suc p) c other next) (p, refl, blank_at) leads };
-        no_letter = λ d q d_other scalar stands.
-            not_at bytes (drop (q - p) (drop p bytes)) p d d_other (Occurs-on bytes (encode_utf8 d) p q stands) blank_at;
+        no_letter = λ d q d_other scalar occurs.
+            not_at bytes (drop (q - p) (drop p bytes)) p d d_other (Occurs-on bytes (encode_utf8 d) p q occurs) blank_at;
       }

@@ -8,17 +8,17 @@ use Rattle.std.proofs.Math.Seq.{drop-cons}
 use Rattle.lic_words.specs.Words.{Word, blank}
 use Rattle.lic_words.specs.Letters.{is_word}
 use Rattle.lic_words.specs.Spelling.{Gap, no_gap, free, needed, gap_of, gapped, gapped_from, sequence_of, Spells, SpellsGapped}
-use Rattle.lic_words.proofs.Spellings.{gap-behind_blank}
+use Rattle.lic_words.proofs.Spellings.{gap-after_blank}
 use Rattle.lic_phrases.specs.Spelling.{is_parted}
 use Rattle.lic_norm.specs.Tokens.{TokenValue}
 use Rattle.lic_norm.specs.Places.{place_start, place_end, texts_of}
 use Rattle.lic_places.specs.Places.{AreTexts, IsAfterBlank, spelling_of}
 use Rattle.lic_places.specs.Reads.{BeginsAt, Reads, ReadsTokens}
-use Rattle.lic_places.proofs.TieReading.{HasLetter, StandsGap, StandGapped, not_behind_stay, read_gapped, spell_gapped}
+use Rattle.lic_places.proofs.TieReading.{HasLetter, StandsGap, StandGapped, not_after_stay, read_gapped, spell_gapped}
 use Rattle.lic_places.proofs.TiePlaces.{is_free_before}
 use Rattle.lic_places.proofs.TieLetters.{gapped_from-token}
 use Rattle.lic_places.proofs.TieEnds.{text_at, place_start-first, bytes_from_start, text-utf8}
-use Rattle.lic_places.proofs.TieTokens.{token_stands, tokens_stand, gap_before, text_written}
+use Rattle.lic_places.proofs.TieTokens.{token_occurs, tokens_stand, gap_before, text_written}
 
 -- ---- the gap before a range
 
@@ -62,7 +62,7 @@ module _ (tokens : List TokenValue) (first e : ℕ) (w : Word) where
   to_gap b p gap q (inl is) read = inr (subst (λ x. Reads tokens x w e) is read)
   to_gap false p gap q (inr (next, blank_before)) read =
       let here : suc q ≡ p = next ∙ sym gap.0 in
-      absurd (not_behind_stay tokens p gap.1.stay (subst (IsAfterBlank (spelling_of tokens)) here blank_before))
+      absurd (not_after_stay tokens p gap.1.stay (subst (IsAfterBlank (spelling_of tokens)) here blank_before))
   to_gap true p gap q (inr (next, blank_before)) read =
       let is_next = gap.next in
       let here : q ≡ p = omega arith in
@@ -107,20 +107,20 @@ module _ (tokens : List TokenValue) (known : AreTexts tokens) where
       let within : first < length tokens = omega arith in
       let e = place_end tokens (first + m) in
       let sequence = sequence_of (map chars (take m (drop (suc first) (texts_of tokens)))) in
-      let token = token_stands tokens known first within sequence e (λ l l_is solid. tokens_stand tokens known m first l h l_is) in
+      let token = token_occurs tokens known first within sequence e (λ l l_is solid. tokens_stand tokens known m first l h l_is) in
       let c = token.letter in
       let gaps = gapped_from c false (token.others ++ sequence) in
-      let (b, p, gap) = first_gap first c token.others within token.stands.other token.are in
+      let (b, p, gap) = first_gap first c token.others within token.occurs.other token.are in
       let shape : gapped (map (λ t. chars t.text) (take (suc m) (drop first tokens))) ≡ (free, c) ∷ gaps =
       ap gapped (range_letters first m within)
       ∙ gapped_from-token blank (chars (text_at tokens first)) token.others (map chars (take m (drop (suc first) (texts_of tokens)))) c
-      (is_word blank && is_word c) token.are token.stands.other refl
-      ∙ ap (λ g. (g, c) ∷ gaps) (gap-behind_blank c) in (
+      (is_word blank && is_word c) token.are token.occurs.other refl
+      ∙ ap (λ g. (g, c) ∷ gaps) (gap-after_blank c) in (
         λ spells. from_gap tokens first e w b p gap
-            (read_free tokens c gaps (place_start tokens first) token.next e token.stands token.later w b p gap
+            (read_free tokens c gaps (place_start tokens first) token.next e token.occurs token.later w b p gap
             (subst (SpellsGapped w) shape spells)),
         λ read. subst (SpellsGapped w) (sym shape)
-            (spell_free tokens c gaps (place_start tokens first) token.next e token.stands token.later w b p gap
+            (spell_free tokens c gaps (place_start tokens first) token.next e token.occurs token.later w b p gap
             (to_gap tokens first e w b p gap read.0 read.1 read.2)),
       )
 

@@ -14,7 +14,7 @@ use Rattle.lic_places.specs.Reads.{Takes, Reads}
 pub record HasLetter (tokens : List TokenValue) (p c q : ℕ) : Type 0 where
   pub other : c ≢ blank
   pub scalar : IsScalar c
-  pub stands : Occurs (spelling_of tokens) p (encode_utf8 c) q
+  pub occurs : Occurs (spelling_of tokens) p (encode_utf8 c) q
   pub only : (d r : ℕ) → IsScalar d → Occurs (spelling_of tokens) p (encode_utf8 d) r → (d ≡ c) × (r ≡ q)
 
 -- no blank of a word leads on from a place
@@ -50,24 +50,24 @@ StandGapped tokens p (x ∷ gaps) e =
 
 OverBlank-order : (tokens : List TokenValue) (p q : ℕ) → OverBlank tokens p q → p ≤ q
 OverBlank-order tokens p q (over is) = omega arith
-OverBlank-order tokens p q (stays not_behind gap) = omega arith
+OverBlank-order tokens p q (stays not_after gap) = omega arith
 
 -- a blank stays, or leads over one byte
 OverBlank-either : (tokens : List TokenValue) (p q : ℕ) → OverBlank tokens p q → (q ≡ p) ⊎ (q ≡ suc p)
 OverBlank-either tokens p q (over is) = inr refl
-OverBlank-either tokens p q (stays not_behind gap) = inl refl
+OverBlank-either tokens p q (stays not_after gap) = inl refl
 
 -- a blank that leads to the place where it is leaves it there
 OverBlank-back : (tokens : List TokenValue) (p q : ℕ) → OverBlank tokens p q → q ≤ p → q ≡ p
 OverBlank-back tokens p q leads order = let far = OverBlank-order tokens p q leads in omega arith
 
 Occurs-forward : (bytes : List ℕ) (p c q : ℕ) → Occurs bytes p (encode_utf8 c) q → p < q
-Occurs-forward bytes p c q stands = omega (arith, stands.0, length-encode c, (len_utf8_bounds c).0)
+Occurs-forward bytes p c q occurs = omega (arith, occurs.0, length-encode c, (len_utf8_bounds c).0)
 
 Takes-order : (tokens : List TokenValue) (p c q : ℕ) → Takes tokens p c q → p ≤ q
 Takes-order tokens p c q (inl (is, leads)) = OverBlank-order tokens p q leads
-Takes-order tokens p c q (inr (other, scalar, stands)) =
-    let far = Occurs-forward (spelling_of tokens) p c q stands in omega arith
+Takes-order tokens p c q (inr (other, scalar, occurs)) =
+    let far = Occurs-forward (spelling_of tokens) p c q occurs in omega arith
 
 Reads-order : (tokens : List TokenValue) (p : ℕ) (w : Word) (q : ℕ) → Reads tokens p w q → p ≤ q
 Reads-order tokens p [] q same = omega arith
@@ -85,7 +85,7 @@ StandGapped-order : (tokens : List TokenValue) (p : ℕ) (gaps : List (Gap × �
 StandGapped-order tokens p [] e (same, stay) = omega arith
 StandGapped-order tokens p (x ∷ gaps) e (r, s, gap, letter, later) =
     let before = StandsGap-order tokens p x.0 r gap in
-    let over = Occurs-forward (spelling_of tokens) r x.1 s letter.stands in
+    let over = Occurs-forward (spelling_of tokens) r x.1 s letter.occurs in
     let farther = StandGapped-order tokens s gaps e later in
     omega arith
 
@@ -96,12 +96,12 @@ StandGapped-end tokens p [] e (same, stay) = subst (λ x. OverBlank tokens x x) 
 StandGapped-end tokens p (x ∷ gaps) e (r, s, gap, letter, later) = StandGapped-end tokens s gaps e later
 
 -- a blank that stays does not come right after another
-not_behind_over : (tokens : List TokenValue) (p q : ℕ) → OverBlank tokens p q → q ≡ p → IsAfterBlank (spelling_of tokens) p → ⊥
-not_behind_over tokens p q (over is) same blank_before = omega arith
-not_behind_over tokens p q (stays not_behind gap) same blank_before = not_behind blank_before
+not_after_over : (tokens : List TokenValue) (p q : ℕ) → OverBlank tokens p q → q ≡ p → IsAfterBlank (spelling_of tokens) p → ⊥
+not_after_over tokens p q (over is) same blank_before = omega arith
+not_after_over tokens p q (stays not_after gap) same blank_before = not_after blank_before
 
-pub not_behind_stay : (tokens : List TokenValue) (p : ℕ) → OverBlank tokens p p → IsAfterBlank (spelling_of tokens) p → ⊥
-not_behind_stay tokens p stay = not_behind_over tokens p p stay refl
+pub not_after_stay : (tokens : List TokenValue) (p : ℕ) → OverBlank tokens p p → IsAfterBlank (spelling_of tokens) p → ⊥
+not_after_stay tokens p stay = not_after_over tokens p p stay refl
 
 -- ---- what spells the letters is read
 
@@ -129,7 +129,7 @@ read_gapped tokens p [] e w (same, stay) (n, is) =
 read_gapped tokens p (x ∷ gaps) e w (r, s, gap, letter, later) (n, allows, v, is, spells) =
     subst (λ y. Reads tokens p y e) (sym is)
     (read_blanks tokens p x.0 r e n (x.1 ∷ v) gap allows
-    (s, inr (letter.other, letter.scalar, letter.stands), read_gapped tokens s gaps e v later spells))
+    (s, inr (letter.other, letter.scalar, letter.occurs), read_gapped tokens s gaps e v later spells))
 
 -- ---- what is read spells the letters
 
@@ -159,17 +159,17 @@ module _ (tokens : List TokenValue) (e d : ℕ) (w : Word) (r0 : ℕ) (later : S
       let (n, is_blanks) = later p [] (same, stay) (subst (λ x. Reads tokens x w e) here read) in
       let longer : d ∷ w ≡ blanks (suc n) = cc in
       (suc n, longer)
-  spell_end p same stay (inr (other, scalar, stands)) =
+  spell_end p same stay (inr (other, scalar, occurs)) =
       let far = Reads-order tokens r0 w e read in
-      let forward = Occurs-forward (spelling_of tokens) p d r0 stands in
+      let forward = Occurs-forward (spelling_of tokens) p d r0 occurs in
       absurd (omega arith)
 
   module _ (c : ℕ) (gaps : List (Gap × ℕ)) (r s : ℕ) (letter : HasLetter tokens r c s) (after : StandGapped tokens s gaps e) where
     -- the letter is read
     spell_letter : (p : ℕ) (gap : Gap) → p ≡ r → Allows gap 0 → IsScalar d → Occurs (spelling_of tokens) p (encode_utf8 d) r0
         → SpellsGapped (d ∷ w) ((gap, c) ∷ gaps)
-    spell_letter p gap same none scalar stands =
-        let (is, there) = letter.only d r0 scalar (subst (λ x. Occurs (spelling_of tokens) x (encode_utf8 d) r0) same stands) in
+    spell_letter p gap same none scalar occurs =
+        let (is, there) = letter.only d r0 scalar (subst (λ x. Occurs (spelling_of tokens) x (encode_utf8 d) r0) same occurs) in
         (0, none, w, ap (λ x. x ∷ w) is, later s gaps after (subst (λ x. Reads tokens x w e) there read))
 
     -- a blank is read that stays before the blank of the text, or leads over it
@@ -184,24 +184,24 @@ module _ (tokens : List TokenValue) (e d : ℕ) (w : Word) (r0 : ℕ) (later : S
 
     spell_step : (p : ℕ) (gap : Gap) → StandsGap tokens p gap r → Takes tokens p d r0 → SpellsGapped (d ∷ w) ((gap, c) ∷ gaps)
     spell_step p no_gap (same, shut) (inl (is, leads)) = absurd (shut.nowhere r0 leads)
-    spell_step p no_gap (same, shut) (inr (other, scalar, stands)) = spell_letter p no_gap same refl scalar stands
+    spell_step p no_gap (same, shut) (inr (other, scalar, occurs)) = spell_letter p no_gap same refl scalar occurs
     spell_step p free (same, is_free) (inl (is, leads)) =
         one_more d w free c gaps is (λ n allows. tt)
         (later p ((free, c) ∷ gaps) (r, s, (same, is_free), letter, after)
         (subst (λ x. Reads tokens x w e) (is_free.only r0 leads) read))
-    spell_step p free (same, is_free) (inr (other, scalar, stands)) = spell_letter p free same tt scalar stands
+    spell_step p free (same, is_free) (inr (other, scalar, occurs)) = spell_letter p free same tt scalar occurs
     spell_step p needed is_needed (inl (is, leads)) = spell_needed p is_needed is (OverBlank-either tokens p r0 leads)
-    spell_step p needed is_needed (inr (other, scalar, stands)) = absurd (is_needed.no_letter d r0 other scalar stands)
+    spell_step p needed is_needed (inr (other, scalar, occurs)) = absurd (is_needed.no_letter d r0 other scalar occurs)
 
 pub spell_gapped : (tokens : List TokenValue) (e : ℕ) (w : Word) (p : ℕ) (gaps : List (Gap × ℕ)) → StandGapped tokens p gaps e
     → Reads tokens p w e → SpellsGapped w gaps
 spell_gapped tokens e [] p [] stand read = (0, refl)
 spell_gapped tokens e [] p (x ∷ gaps) (r, s, gap, letter, after) read =
     let before = StandsGap-order tokens p x.0 r gap in
-    let over = Occurs-forward (spelling_of tokens) r x.1 s letter.stands in
+    let over = Occurs-forward (spelling_of tokens) r x.1 s letter.occurs in
     let farther = StandGapped-order tokens s gaps e after in
     absurd (omega arith)
 spell_gapped tokens e (d ∷ w) p [] (same, stay) (r0, takes, read) =
     spell_end tokens e d w r0 (spell_gapped tokens e w) read p same stay takes
-spell_gapped tokens e (d ∷ w) p ((gap, c) ∷ gaps) (r, s, stands, letter, after) (r0, takes, read) =
-    spell_step tokens e d w r0 (spell_gapped tokens e w) read c gaps r s letter after p gap stands takes
+spell_gapped tokens e (d ∷ w) p ((gap, c) ∷ gaps) (r, s, occurs, letter, after) (r0, takes, read) =
+    spell_step tokens e d w r0 (spell_gapped tokens e w) read c gaps r s letter after p gap occurs takes

@@ -14,8 +14,8 @@ use Rattle.lic_norm.specs.Tokens.{TokenValue}
 use Rattle.lic_norm.specs.Places.{place_start, place_end, texts_of}
 use Rattle.lic_norm.specs.Spans.{IsTokenText}
 use Rattle.lic_places.specs.Places.{AreTexts, HasGap, IsAfterBlank, stays, spelling_of}
-use Rattle.lic_places.proofs.TieReading.{HasLetter, StandsGap, StandGapped, StandGapped-end, not_behind_stay}
-use Rattle.lic_places.proofs.TiePlaces.{drop-on, length-letter, not_behind, has_letter, is_free_before, is_needed_before}
+use Rattle.lic_places.proofs.TieReading.{HasLetter, StandsGap, StandGapped, StandGapped-end, not_after_stay}
+use Rattle.lic_places.proofs.TiePlaces.{drop-on, length-letter, not_after, has_letter, is_free_before, is_needed_before}
 use Rattle.lic_places.proofs.TieLetters.{AreWordsApart, gapped_from-token, letters_stand}
 use Rattle.lic_places.proofs.TieEnds.{text_at, blank_after, place_end-start, place_start-next, bytes_from_start, bytes_from_end, text-utf8, text-token, no_end_inside}
 
@@ -62,10 +62,10 @@ pub text_written : (text cs : List ℕ) (c : ℕ) → IsUtf8 text → chars text
 text_written text cs c utf8 is = sym (encodes-chars text utf8) ∙ ap encode_utf8_all is
 
 -- a sequence is where the gap before its first token does, and the letters of the token and of the others
-sequence_stands : (tokens : List TokenValue) (p e last : ℕ) (t cs : List ℕ) (ts : List (List ℕ)) (c : ℕ) (b : Bool) (r s : ℕ) → t ≡ c ∷ cs
+sequence_occurs : (tokens : List TokenValue) (p e last : ℕ) (t cs : List ℕ) (ts : List (List ℕ)) (c : ℕ) (b : Bool) (r s : ℕ) → t ≡ c ∷ cs
     → is_word last && is_word c ≡ b → StandsGap tokens p (gap_of true b) r → HasLetter tokens r c s
     → StandGapped tokens s (gapped_from c false (cs ++ sequence_of ts)) e → StandGapped tokens p (gapped_from last false (sequence_of (t ∷ ts))) e
-sequence_stands tokens p e last t cs ts c b r s are words gap letter later =
+sequence_occurs tokens p e last t cs ts c b r s are words gap letter later =
     subst (λ gaps. StandGapped tokens p gaps e) (sym (gapped_from-token last t cs ts c b are letter.other words)) (r, s, gap, letter, later)
 
 -- ---- one token
@@ -77,14 +77,14 @@ module _ (tokens : List TokenValue) (known : AreTexts tokens) where
     pub others : List ℕ
     pub next : ℕ
     pub are : chars (text_at tokens i) ≡ letter ∷ others
-    pub stands : HasLetter tokens (place_start tokens i) letter next
+    pub occurs : HasLetter tokens (place_start tokens i) letter next
     pub later : StandGapped tokens next (gapped_from letter false (others ++ sequence)) e
 
-  pub token_stands : (i : ℕ) → i < length tokens → (sequence : List ℕ) (e : ℕ)
+  pub token_occurs : (i : ℕ) → i < length tokens → (sequence : List ℕ) (e : ℕ)
       → ((last : ℕ) → is_word last ≡ ends_in_word (text_at tokens i) → (IsAfterBlank (spelling_of tokens) (place_end tokens i) → ⊥)
       → StandGapped tokens (place_end tokens i) (gapped_from last false sequence) e)
       → TokenStands i sequence e
-  token_stands i h sequence e go_on =
+  token_occurs i h sequence e go_on =
       let text = text_at tokens i in
       let utf8 = text-utf8 tokens i known h in
       let token = text-token tokens i known h in
@@ -105,14 +105,14 @@ module _ (tokens : List TokenValue) (known : AreTexts tokens) where
         others = cs;
         next = next;
         are = are;
-        stands = has;
+        occurs = has;
         later = letters_stand tokens (chars text) (words_apart text utf8 token) start (place_end tokens i)
             (λ p after before. no_end_inside tokens i p h after before) around.0 sequence e go_on cs (c ∷ []) c next (record {
               parts = are;
               last_is = refl;
               scalars = (and_parts _ _ scalars).1;
               bytes = drop-on (spelling_of tokens) (encode_utf8 c) rest start bytes;
-              solid = not_behind (spelling_of tokens) rest start c other bytes;
+              solid = not_after (spelling_of tokens) rest start c other bytes;
               forward = omega (arith, length-letter c);
               stops = omega (arith, place_end-start tokens i h, size, length-append (encode_utf8 c) (encode_utf8_all cs));
             });
@@ -123,11 +123,11 @@ module _ (tokens : List TokenValue) (known : AreTexts tokens) where
   end_gap i h = inr (inr (record { number = i; within = h; ends = refl }))
 
   -- no token ends with a blank
-  pub not_behind_end : (i : ℕ) → i < length tokens → IsAfterBlank (spelling_of tokens) (place_end tokens i) → ⊥
-  not_behind_end i h =
-      let stands = token_stands i h [] (place_end tokens i) (λ last is solid. (refl, stays solid (end_gap i h))) in
-      not_behind_stay tokens (place_end tokens i)
-      (StandGapped-end tokens stands.next (gapped_from stands.letter false (stands.others ++ [])) (place_end tokens i) stands.later)
+  pub not_after_end : (i : ℕ) → i < length tokens → IsAfterBlank (spelling_of tokens) (place_end tokens i) → ⊥
+  not_after_end i h =
+      let occurs = token_occurs i h [] (place_end tokens i) (λ last is solid. (refl, stays solid (end_gap i h))) in
+      not_after_stay tokens (place_end tokens i)
+      (StandGapped-end tokens occurs.next (gapped_from occurs.letter false (occurs.others ++ [])) (place_end tokens i) occurs.later)
 
   -- ---- the gap between two tokens
 
@@ -137,12 +137,12 @@ module _ (tokens : List TokenValue) (known : AreTexts tokens) where
       → StandsGap tokens (place_end tokens i) (gap_of true b) (place_start tokens (suc i))
   gap_by i c rest h other true bytes starts =
       let next : suc (place_end tokens i) ≡ place_start tokens (suc i) = omega arith in
-      let solid = not_behind_end i (omega arith) in
+      let solid = not_after_end i (omega arith) in
       subst (λ r. StandsGap tokens (place_end tokens i) needed r) next (is_needed_before tokens rest (place_end tokens i) c other bytes solid)
   gap_by i c rest h other false bytes starts =
       let next : place_end tokens i ≡ place_start tokens (suc i) = omega arith in
       let within : i < length tokens = omega arith in
-      (next, is_free_before tokens rest (place_end tokens i) c other bytes (not_behind_end i within) (end_gap i within))
+      (next, is_free_before tokens rest (place_end tokens i) c other bytes (not_after_end i within) (end_gap i within))
 
   pub gap_before : (i c : ℕ) (cs : List ℕ) → suc i < length tokens → chars (text_at tokens (suc i)) ≡ c ∷ cs
       → StandsGap tokens (place_end tokens i) (gap_of true (is_parted (text_at tokens i) (text_at tokens (suc i)))) (place_start tokens (suc i))
@@ -174,18 +174,18 @@ module _ (tokens : List TokenValue) (known : AreTexts tokens) where
       → StandGapped tokens (place_end tokens i) (gapped_from last false (sequence_of (letters_after m i))) (place_end tokens (i + m))
   tokens_stand zero i last h last_is =
       let within : i < length tokens = omega arith in
-      (ap (place_end tokens) (sym (add-zero i)), stays (not_behind_end i within) (end_gap i within))
+      (ap (place_end tokens) (sym (add-zero i)), stays (not_after_end i within) (end_gap i within))
   tokens_stand (suc m) i last h last_is =
       let within : suc i < length tokens = omega arith in
       let sequence = sequence_of (letters_after m (suc i)) in
       let later_end : suc i + m ≡ i + suc m = omega arith in
-      let token = token_stands (suc i) within sequence (place_end tokens (i + suc m))
+      let token = token_occurs (suc i) within sequence (place_end tokens (i + suc m))
       (λ l l_is solid. subst (λ n. StandGapped tokens (place_end tokens (suc i)) (gapped_from l false sequence) (place_end tokens n)) later_end
       (tokens_stand m (suc i) l (omega arith) l_is)) in
       let words : is_word last && is_word token.letter ≡ is_parted (text_at tokens i) (text_at tokens (suc i)) =
       ap₂ (λ a b. a && b) last_is (sym (ap first_is_word token.are)) in
       subst (λ ts. StandGapped tokens (place_end tokens i) (gapped_from last false (sequence_of ts)) (place_end tokens (i + suc m)))
       (sym (letters_after-more m i within))
-      (sequence_stands tokens (place_end tokens i) (place_end tokens (i + suc m)) last (chars (text_at tokens (suc i))) token.others
+      (sequence_occurs tokens (place_end tokens i) (place_end tokens (i + suc m)) last (chars (text_at tokens (suc i))) token.others
       (letters_after m (suc i)) token.letter (is_parted (text_at tokens i) (text_at tokens (suc i))) (place_start tokens (suc i))
-      token.next token.are words (gap_before i token.letter token.others within token.are) token.stands token.later)
+      token.next token.are words (gap_before i token.letter token.others within token.are) token.occurs token.later)

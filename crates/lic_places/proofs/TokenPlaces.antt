@@ -11,7 +11,7 @@ use Rattle.lic_norm.specs.Places.{texts_of, place_end, place_start}
 use Rattle.lic_places.specs.Places.{AreTexts, IsAfterBlank, OverBlank, Occurs, is_blank_at, spelling_of}
 use Rattle.lic_places.specs.Places.OverBlank.{over, stays}
 use Rattle.lic_places.proofs.Spelled.{before, spelled-before, spelled-around, spelled-cut, spelled-apart, spelled-utf8, apart_at, text_begins, text_ends}
-use Rattle.lic_places.proofs.Occurring.{Occurs-among, Occurs-drop, Occurs-first, stands_blank}
+use Rattle.lic_places.proofs.Occurring.{Occurs-among, Occurs-drop, Occurs-first, occurs_blank}
 
 -- ---- the texts of tokens
 
@@ -99,7 +99,7 @@ blank-between tokens i within parted =
     let bytes = cut ∙ ap (λ b. front ++ (blank_if b ++ spelled (drop (suc i) texts))) parted in
     subst (λ p. IsTrue (is_blank_at (spelling_of tokens) p)) (sym (place_end-is tokens i))
     (subst (λ l. IsTrue (is_blank_at l (length front))) (sym bytes)
-    (stands_blank (front ++ (0x20 ∷ spelled (drop (suc i) texts))) (length front) [] (length front + 1)
+    (occurs_blank (front ++ (0x20 ∷ spelled (drop (suc i) texts))) (length front) [] (length front + 1)
     (Occurs-among front (0x20 ∷ []) (spelled (drop (suc i) texts)))))
 
 pub tokens-next : (tokens : List TokenValue) (i : ℕ) → suc i < length tokens
@@ -121,10 +121,10 @@ tokens-next tokens i within =
 -- ---- edges
 
 no_blank_first : (bytes text : List ℕ) (p q : ℕ) → IsTokenText text → Occurs bytes p text q → is_blank_at bytes p ≡ true → ⊥
-no_blank_first bytes [] p q token stands blank = absurd (omega (arith, token.not_empty))
-no_blank_first bytes (c ∷ text) p q token stands blank =
+no_blank_first bytes [] p q token occurs blank = absurd (omega (arith, token.not_empty))
+no_blank_first bytes (c ∷ text) p q token occurs blank =
     text_begins (c ∷ text) text token
-    (ap (λ x. x ∷ text) (sym (Occurs-first bytes p c text q stands) ∙ eqb-true (get_or bytes p 0) 0x20 blank))
+    (ap (λ x. x ∷ text) (sym (Occurs-first bytes p c text q occurs) ∙ eqb-true (get_or bytes p 0) 0x20 blank))
 
 pub token-starts : (tokens : List TokenValue) (i : ℕ) → AreTexts tokens → i < length tokens
     → is_blank_at (spelling_of tokens) (place_start tokens i) ≡ false
@@ -139,19 +139,19 @@ last_cut text n many =
 
 last_byte : (bytes text : List ℕ) (p r n : ℕ) → length text ≡ suc n → Occurs bytes p text (suc r)
     → get_or text n 0 ≡ get_or bytes r 0
-last_byte bytes text p r n many stands =
-    let at : r ≡ p + n = omega (arith, stands.0) in
+last_byte bytes text p r n many occurs =
+    let at : r ≡ p + n = omega (arith, occurs.0) in
     let within : n < length text = omega arith in
     sym (get_or_append_left text (drop (suc r) bytes) 0 n within)
-    ∙ ap (λ l. get_or l n 0) (sym (Occurs-drop bytes p text (suc r) stands))
+    ∙ ap (λ l. get_or l n 0) (sym (Occurs-drop bytes p text (suc r) occurs))
     ∙ get_or-drop p bytes n 0 ∙ ap (λ k. get_or bytes k 0) (sym at)
 
 no_blank_last : (bytes text : List ℕ) (p q : ℕ) → IsTokenText text → Occurs bytes p text q → IsAfterBlank bytes q → ⊥
-no_blank_last bytes text p q token stands after =
+no_blank_last bytes text p q token occurs after =
     let r = after.0 in
     let n = length text - 1 in
     let many : length text ≡ suc n = omega (arith, token.not_empty) in
-    let here : Occurs bytes p text (suc r) = subst (λ k. Occurs bytes p text k) after.1 stands in
+    let here : Occurs bytes p text (suc r) = subst (λ k. Occurs bytes p text k) after.1 occurs in
     text_ends text (take n text) token
     (last_cut text n many
     ∙ ap (λ c. take n text ++ (c ∷ [])) (last_byte bytes text p r n many here ∙ eqb-true (get_or bytes r 0) 0x20 after.2))

@@ -20,6 +20,14 @@ fn feed(feeder: &mut Feeder<'_>, input: &[u8], size: usize) -> usize
     refused
 }
 
+/// A feeder in the memory of the text of these bytes, if there is one.
+fn feeder_after<'w>(alloc: Global, bytes: &[u8], words: &'w Words, rules: &'w Rules) -> Feeder<'w> {
+    match read_pieces(alloc, &[bytes], words, rules) {
+        Ok(text) => Feeder::reuse(alloc, text, words, rules),
+        Err(_) => Feeder::new(alloc, words, rules),
+    }
+}
+
 /// What comes of a front and of pieces of `size` bytes after it: how many of these are refused, how many tokens are ready then, and the
 /// text.
 fn fed(
@@ -32,7 +40,7 @@ fn fed(
 ) -> (usize, usize, Result<Text, TextFault>)
     requires { 0 < size }
 {
-    let mut feeder = Feeder::new(alloc, words, rules);
+    let mut feeder = feeder_after(alloc, rest, words, rules);
     feed(&mut feeder, front, MAX_BYTES);
     let refused = feed(&mut feeder, rest, size);
     let ready = feeder.ready();

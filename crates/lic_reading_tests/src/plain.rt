@@ -12,7 +12,7 @@ use std::str::from_utf8;
 const WHOLE_LINE: LinePart = LinePart {
     has_front: true,
     has_end: true,
-    behind: None,
+    past: None,
 };
 
 /// The character that begins at this byte, and how many bytes it has: U+FFFD for a byte at which none begins.

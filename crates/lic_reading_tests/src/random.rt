@@ -82,6 +82,46 @@ const FRAGMENTS: &[&[u8]] = &[
     b"*************************************************************",
 ];
 
+/// What other texts are made of, of which most lines have only simple characters, and such beyond ASCII: words of letters of two
+/// and three bytes, white space, quotes and dashes beyond ASCII, next to the same of ASCII, and words of more than 16 bytes.
+const SIMPLE: &[&[u8]] = &[
+    b"a",
+    b"Foo",
+    b"foo bar",
+    b" ",
+    b"\n",
+    b"\n",
+    b"\xC3\xA9t\xC3\xA9",
+    b"\xC3\x89",
+    b"\xD0\x96\xD0\xB8",
+    b"\xCE\xA3",
+    b"\xE4\xB8\xAD\xE6\x96\x87",
+    b"\xE3\x80\x82",
+    b"\xC2\xA0",
+    b"\xE3\x80\x80",
+    b"\xE2\x80\x93",
+    b"\xE2\x80\x94",
+    b"\xE2\x80\x99",
+    b"\xC2\xAB",
+    b"\xC2\xBB ",
+    b"-",
+    b"---",
+    b"'",
+    b"\"",
+    b".",
+    b", ",
+    b"(",
+    b")",
+    b"(c)",
+    b"copyright",
+    b"https://",
+    b"sub license",
+    b"sub-license",
+    b"\xC3\xA9\xC3\xA9\xC3\xA9\xC3\xA9\xC3\xA9\xC3\xA9\xC3\xA9\xC3\xA9\xC3\xA9\xC3\xA9",
+    b"aaaaaaaaaaaaaaaaaaaaaaaaaaaaaaaaaaaaaaaaaaaaaaaaaaaaaaaaaaaaaaaaa",
+    b"                                                              ",
+];
+
 /// The next state of a generator (Knuth's linear congruential one).
 fn next_state(state: u64) -> u64 {
     state
@@ -94,13 +134,18 @@ fn drawn_below(state: u64, count: usize) -> usize {
     ((state >> 33) as usize).checked_rem(count).unwrap_or(0)
 }
 
-/// A text of so many fragments, and the state that follows.
-fn drawn_text(alloc: Global, mut state: u64, count: usize) -> Result<(Vec<u8>, u64), AllocError> {
+/// A text of so many of these fragments, and the state that follows.
+fn drawn_text(
+    alloc: Global,
+    fragments: &[&[u8]],
+    mut state: u64,
+    count: usize,
+) -> Result<(Vec<u8>, u64), AllocError> {
     let mut text = Vec::new(alloc);
     for _ in 0..count {
         state = next_state(state);
-        let number = drawn_below(state, FRAGMENTS.len());
-        text.extend_from_slice(FRAGMENTS.get(number).copied().unwrap_or(b""))?;
+        let number = drawn_below(state, fragments.len());
+        text.extend_from_slice(fragments.get(number).copied().unwrap_or(b""))?;
     }
     Ok((text, state))
 }
@@ -139,12 +184,18 @@ fn read_in_pieces(
     Ok(show_tokens(alloc, &feeder.finish()?)?)
 }
 
-/// The first of some random texts that the plain reader reads in another way, whole or in pieces, and what both make of it.
-fn first_difference(alloc: Global, words: &str, rules: &Rules) -> Result<String, Fail> {
+/// The first of some random texts of these fragments that the plain reader reads in another way, whole or in pieces, and what both
+/// make of it.
+fn first_difference(
+    alloc: Global,
+    fragments: &[&[u8]],
+    words: &str,
+    rules: &Rules,
+) -> Result<String, Fail> {
     let words = Words::read(alloc, words)?;
     let mut state = 1u64;
     for number in 0..1500usize {
-        let (input, next) = drawn_text(alloc, state, number % 60 + 1)?;
+        let (input, next) = drawn_text(alloc, fragments, state, number % 60 + 1)?;
         state = next;
         let wanted = read_plainly(alloc, &input, &words, rules)?;
         let text = Text::read(alloc, input.to_vec(alloc)?, &words, rules)?;
@@ -162,7 +213,7 @@ fn first_difference(alloc: Global, words: &str, rules: &Rules) -> Result<String,
 #[test]
 fn random_texts_are_read_by_the_profile(rt: HostRuntime) -> Result<(), Fail> {
     let rules = Rules::profile(rt.alloc());
-    let found = first_difference(rt.alloc(), "", &rules)?;
+    let found = first_difference(rt.alloc(), FRAGMENTS, "", &rules)?;
     assert_eq!(rt; found.as_str(), "");
     Ok(())
 }
@@ -171,7 +222,7 @@ fn random_texts_are_read_by_the_profile(rt: HostRuntime) -> Result<(), Fail> {
 fn random_texts_are_read_by_equivalent_words(rt: HostRuntime) -> Result<(), Fail> {
     let rules = Rules::profile(rt.alloc());
     let words = "sub-license,sub license\nfoo,foo bar foo\ncopyright owner,a\n";
-    let found = first_difference(rt.alloc(), words, &rules)?;
+    let found = first_difference(rt.alloc(), FRAGMENTS, words, &rules)?;
     assert_eq!(rt; found.as_str(), "");
     Ok(())
 }
@@ -182,7 +233,27 @@ fn random_texts_are_read_by_other_rules(rt: HostRuntime) -> Result<(), Fail> {
         rt.alloc(),
         "lead //\nlead *\nlead-space Foo\ntail */\ntail-space |\ntail-repeat -\nitems off\nseparators off\n",
     )?;
-    let found = first_difference(rt.alloc(), "sub-license,sub license\n", &rules)?;
+    let found = first_difference(rt.alloc(), FRAGMENTS, "sub-license,sub license\n", &rules)?;
+    assert_eq!(rt; found.as_str(), "");
+    Ok(())
+}
+
+#[test]
+fn random_texts_of_simple_characters_are_read_by_the_profile(rt: HostRuntime) -> Result<(), Fail> {
+    let rules = Rules::profile(rt.alloc());
+    let words = "sub-license,sub license\nfoo,foo bar foo\n\u{E9}t\u{E9},a\n";
+    let found = first_difference(rt.alloc(), SIMPLE, words, &rules)?;
+    assert_eq!(rt; found.as_str(), "");
+    Ok(())
+}
+
+#[test]
+fn random_texts_of_simple_characters_are_read_by_other_rules(rt: HostRuntime) -> Result<(), Fail> {
+    let rules = Rules::read(
+        rt.alloc(),
+        "lead Foo\nlead-space .\ntail a\ntail-space -\ntail-repeat -\nitems off\nseparators off\n",
+    )?;
+    let found = first_difference(rt.alloc(), SIMPLE, "sub-license,sub license\n", &rules)?;
     assert_eq!(rt; found.as_str(), "");
     Ok(())
 }

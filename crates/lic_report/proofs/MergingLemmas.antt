@@ -3,9 +3,8 @@ use Rattle.std.proofs.Common.{◌≡◌, ◌⊎◌, List, [], ◌∷◌, Option,
 use Rattle.std.specs.List.{Contains}
 use Rattle.std.proofs.lemmas.Bool.{cases_Bool, cond-true, cond-false}
 use Rattle.std.proofs.lemmas.Bool.Decides.{not_from_Decides}
-use Rattle.lic_set.specs.Matches.{Precedes, AreAscending}
+use Rattle.lic_set.specs.Matches.{Precedes, AreAscending, precedes}
 use Rattle.lic_set.specs.declared.triple.Triple.{Triple}
-use Rattle.lic_bundles.specs.Bundles.{precedes}
 use Rattle.lic_bundles.proofs.TripleOrder.{Precedes-trans, not_before, Decides-precedes, Contains-cons_cases, Contains-head, Contains-tail, Contains-nil}
 use Rattle.lic_report.specs.Merging.{merged, merged_with, with_next}
 

@@ -1,7 +1,7 @@
 -- Two ascending lists of triples as one.
 use Rattle.std.specs.Prelude.{Bool, true, false, if◌then◌else◌, List, [], ◌∷◌, Option, Some, None}
 use Rattle.lic_set.specs.declared.triple.Triple.{Triple}
-use Rattle.lic_bundles.specs.Bundles.{precedes}
+use Rattle.lic_set.specs.Matches.{precedes}
 
 -- a triple and what comes after it, merged with a list, where `others` merges what comes after it with a list
 abbrev pub merged_with : Triple → (List Triple → List Triple) → List Triple → List Triple

@@ -13,13 +13,13 @@ use Rattle.lic_reverse.proofs.StreakChains.{letter-forward}
 -- the letters that bytes spell
 letters-chain : (bytes : List ℕ) (cs : List ℕ) (low place : ℕ) → scalars cs ≡ true → Occurs bytes low (encodes cs) place →
     IsChain bytes (λ _. true) (length cs) low place
-letters-chain bytes [] low place all stands = omega (arith, stands.0)
-letters-chain bytes (c ∷ cs) low place all stands = (
+letters-chain bytes [] low place all occurs = omega (arith, occurs.0)
+letters-chain bytes (c ∷ cs) low place all occurs = (
   low + length (encode c),
   c,
-  record { scalar = (scalar-head c cs all).0; stands = Occurs-left bytes low (encode c) (encodes cs) place stands },
+  record { scalar = (scalar-head c cs all).0; occurs = Occurs-left bytes low (encode c) (encodes cs) place occurs },
   refl,
-  letters-chain bytes cs (low + length (encode c)) place (scalar-head c cs all).1 (Occurs-right bytes low (encode c) (encodes cs) place stands),
+  letters-chain bytes cs (low + length (encode c)) place (scalar-head c cs all).1 (Occurs-right bytes low (encode c) (encodes cs) place occurs),
 )
 
 -- where so many letters of any kind may be up to a place as it has bytes before it, they begin at the beginning
@@ -29,10 +29,10 @@ any-start bytes count place utf8 whole many =
     let spelled : encodes (chars front) ≡ front = encodes-chars front (IsUtf8-take bytes place utf8 whole) in
     let long : length front ≡ place = length-take-le place bytes whole.0 in
     let all : place - 0 ≡ place = omega arith in
-    let stands : Occurs bytes 0 (encodes (chars front)) place = (omega (arith, ap length spelled), ap (λ n. take n bytes) all ∙ sym spelled) in
+    let occurs : Occurs bytes 0 (encodes (chars front)) place = (omega (arith, ap length spelled), ap (λ n. take n bytes) all ∙ sym spelled) in
     record {
       number = length (chars front);
       few = omega (arith, length-le-encodes (chars front), ap length spelled);
-      chain = letters-chain bytes (chars front) 0 place (scalars-chars front (IsUtf8-take bytes place utf8 whole)) stands;
+      chain = letters-chain bytes (chars front) 0 place (scalars-chars front (IsUtf8-take bytes place utf8 whole)) occurs;
       stop = inr (λ p c is passes. omega (arith, letter-forward bytes 0 p c is));
     }

@@ -30,9 +30,6 @@ use Rattle.lic_view.specs.declared.sets.keep.Keep.{Keep}
 
 -- ---- trees
 
-pub tree_of-Empty : tree_of Empty ≡ trees.empty
-tree_of-Empty = ap tree_of (sym rolls-Empty) ∙ fold-roll-Ere Tree node_tree Ere-F.Empty
-
 pub tree_of-Cat : (subs : Vec Ere Global) → tree_of (Sequence subs) ≡ trees.cat (sequence (map tree_of subs.items))
 tree_of-Cat subs = ap tree_of (sym (rolls-Cat subs)) ∙ fold-roll-Ere Tree node_tree (Ere-F.Cat subs)
 
@@ -157,12 +154,6 @@ choice-again keep tokens Ends subs i d xs below (j, next, same) =
           ((choice-more (map tree_of (take j subs)) (tree_of (get_or subs j d)) w).0
           (inr (subst (λ t. Language (tree_words t) w) (sym (same d)) is)))
     ]
-
--- from the end on there is none
-pub sequence-none : (keep : Keep) (tokens : List TokenValue) (subs : List Ere) (i : ℕ) (xs : Taken → List PlaceSpan) → length subs ≤ i → ((s : Taken) → ArePlaced tokens (xs s)) →
-    IsTidyBack keep tokens (Language (sequence_words (sequence (map tree_of (drop i subs))))) xs xs
-sequence-none keep tokens subs i xs all placed =
-    subst (λ s. IsTidyBack keep tokens (Language (sequence_words (sequence (map tree_of s)))) xs xs) (sym (drop_all i subs all)) (tidy-stay keep tokens xs placed)
 
 -- from the first on there are all
 pub sequence-all : (keep : Keep) (tokens : List TokenValue) (Ends : Taken → ℕ → ℕ → Type 0) (subs : List Ere) (i : ℕ) (xs : Taken → List PlaceSpan) → i ≡ 0 →

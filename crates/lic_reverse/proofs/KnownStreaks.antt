@@ -29,15 +29,6 @@ longest-start bytes passes count place streak same longest = record {
   stop = longest.stop;
 }
 
--- one that goes back to no other is the longest
-pub longest-back : (bytes : List ℕ) (passes : ℕ → Bool) (count until : ℕ) (streak : Streak) → ¬ (streak.low ≡ until) → IsStreakBackTo bytes passes count until streak →
-    IsLongest bytes passes count streak
-longest-back bytes passes count until streak other back = record { few = back.few; chain = back.chain; stop = by_stop back.stop }
-  where
-    by_stop : (streak.low ≡ until) ⊎ ((streak.number ≡ count) ⊎ IsNoneBefore bytes passes streak.low) → (streak.number ≡ count) ⊎ IsNoneBefore bytes passes streak.low
-    by_stop (inl same) = absurd (other same)
-    by_stop (inr stop) = stop
-
 -- one chain after another
 pub chain-joined : (bytes : List ℕ) (passes : ℕ → Bool) (m n low middle place : ℕ) → IsChain bytes passes m low middle → IsChain bytes passes n middle place →
     IsChain bytes passes (m + n) low place
@@ -80,7 +71,7 @@ longest-joined bytes passes count many first second streak longest back meets go
 
 -- a byte of ASCII is a letter
 ascii-letter : (bytes : List ℕ) (p : ℕ) → get_or bytes p 0 < 128 → p < length bytes → IsLetterBefore bytes (suc p) p (get_or bytes p 0)
-ascii-letter bytes p ascii within = record { scalar = low_scalar c (omega (arith, ascii)); stands = stands }
+ascii-letter bytes p ascii within = record { scalar = low_scalar c (omega (arith, ascii)); occurs = occurs }
   where
     c : ℕ
     c = get_or bytes p 0
@@ -94,8 +85,8 @@ ascii-letter bytes p ascii within = record { scalar = low_scalar c (omega (arith
     here : take (suc p - p) (drop p bytes) ≡ c ∷ []
     here = ap (λ n. take n (drop p bytes)) many ∙ ap (take 1) (drop-cons bytes p 0 within) ∙ ap (λ b. b ∷ []) refl
 
-    stands : Occurs bytes p (encode c) (suc p)
-    stands = (omega (arith, ap length one), here ∙ sym one)
+    occurs : Occurs bytes p (encode c) (suc p)
+    occurs = (omega (arith, ap length one), here ∙ sym one)
 
 -- bytes of ASCII are a chain of letters
 ascii-chain : (bytes : List ℕ) (n low place : ℕ) → ((p : ℕ) → low ≤ p → p < place → get_or bytes p 0 < 128) → place ≤ length bytes → place ≡ low + n →

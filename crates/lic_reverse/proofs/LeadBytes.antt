@@ -3,7 +3,7 @@ use Rattle.std.proofs.Common.{◌≡◌, ℕ, ◌+◌, ◌/◌, ◌%◌, ◌<◌
 use Rattle.std.specs.Char.{encode_utf8}
 use Rattle.std.proofs.Math.Nat.{div-lt_iff_lt-mul}
 use Rattle.lic_view.specs.LettersBefore.{IsLetterBefore}
-use Rattle.lic_view.proofs.CountReads.{follows-byte, stands-follows}
+use Rattle.lic_view.proofs.CountReads.{follows-byte, occurs-follows}
 use Rattle.lic_view.proofs.LastLetters.{letter-within}
 use Rattle.lic_reverse.proofs.StreakChains.{letter-forward}
 
@@ -39,19 +39,14 @@ encode-long c = by_size (ltb c 128) (ltb c 2048) (ltb c 65536) refl refl refl
     by_size false false false h k m =
         record { one = λ low. absurd (omega arith); two = λ _ low. absurd (omega arith); three = λ _ low. absurd (omega arith); four = λ _. refl }
 
--- no letter begins past the last byte
-pub letter-past : (bytes : List ℕ) (place end letter : ℕ) → length bytes ≤ place → IsLetterBefore bytes end place letter → ⊥
-letter-past bytes place end letter past is =
-    omega (arith, letter-within bytes end place letter is, letter-forward bytes end place letter is)
-
 -- the end of the letter that begins at a place, by its first byte
 pub letter-ends : (bytes : List ℕ) (place end letter first long : ℕ) → first ≡ get_or bytes place 0 →
     ((c : ℕ) → get_or (encode_utf8 c) 0 0 ≡ first → length (encode_utf8 c) ≡ long) → IsLetterBefore bytes end place letter → end ≡ place + long
-letter-ends bytes place end letter first long is sized stands =
-    let forward = letter-forward bytes end place letter stands in
-    let end_is : end ≡ place + length (encode_utf8 letter) = stands.stands.0 in
+letter-ends bytes place end letter first long is sized occurs =
+    let forward = letter-forward bytes end place letter occurs in
+    let end_is : end ≡ place + length (encode_utf8 letter) = occurs.occurs.0 in
     let zero_more : place + 0 ≡ place = omega arith in
     let byte : get_or bytes place 0 ≡ get_or (encode_utf8 letter) 0 0 =
     ap (λ k. get_or bytes k 0) (sym zero_more)
-    ∙ follows-byte bytes place (encode_utf8 letter) (drop end bytes) 0 (stands-follows bytes place (encode_utf8 letter) end stands.stands) (omega arith) in
+    ∙ follows-byte bytes place (encode_utf8 letter) (drop end bytes) 0 (occurs-follows bytes place (encode_utf8 letter) end occurs.occurs) (omega arith) in
     omega (arith, sized letter (sym byte ∙ sym is))

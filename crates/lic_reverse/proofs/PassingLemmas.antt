@@ -44,7 +44,7 @@ letter-read tokens p c q dark reads = taken reads.1
   where
     taken : Takes tokens p c reads.0 → IsLetterBefore (spelling_of tokens) q p c
     taken (inl is) = absurd (dark is.0)
-    taken (inr is) = subst (λ x. IsLetterBefore (spelling_of tokens) x p c) reads.2 (record { scalar = is.1; stands = is.2 })
+    taken (inr is) = subst (λ x. IsLetterBefore (spelling_of tokens) x p c) reads.2 (record { scalar = is.1; occurs = is.2 })
 
 module _ (keep : Keep) (tokens : List TokenValue) (passes : ℕ → Bool) (span : PlaceSpan) (number : ℕ) where
   -- where a letter leads to the place
@@ -52,12 +52,12 @@ module _ (keep : Keep) (tokens : List TokenValue) (passes : ℕ → Bool) (span 
       LeadsTo tokens passes span.kind number p → IsBackFrom keep tokens (IsPassing passes) (At tokens span number) (single p span.last ∷ [])
   back-passing p texts placed from to led =
       back-single keep tokens (IsPassing passes) (At tokens span number) p led.place span.last (led.letter ∷ [])
-      (last-one tokens span placed) (omega (arith, front, led.stands.stands.0, length-encode led.letter, (len_utf8_bounds led.letter).0))
-      (letter-whole (spelling_of tokens) led.place p led.letter led.stands)
+      (last-one tokens span placed) (omega (arith, front, led.occurs.occurs.0, length-encode led.letter, (len_utf8_bounds led.letter).0))
+      (letter-whole (spelling_of tokens) led.place p led.letter led.occurs)
       (refl, led.is)
       (λ r l e. (place-one tokens span.kind number r led.place e.1 led.is, e.0))
       (led.letter, led.dark, led.passes_it, refl)
-      (led.place, inr (led.dark, led.stands.scalar, led.stands.stands), refl)
+      (led.place, inr (led.dark, led.occurs.scalar, led.occurs.occurs), refl)
       (λ r v has reads. one r v has reads)
     where
       reached : Reaches tokens (span ∷ []) led.place span.last
@@ -68,8 +68,8 @@ module _ (keep : Keep) (tokens : List TokenValue) (passes : ℕ → Bool) (span 
 
       one : (r : ℕ) (v : Word) → IsPassing passes v → Reads tokens r v led.place → r ≡ p
       one r v has reads =
-          let stands = letter-read tokens r has.0 led.place has.1 (subst (λ x. Reads tokens r x led.place) has.3 reads) in
-          (letter-one (spelling_of tokens) led.place r has.0 p led.letter (spelling-utf8 tokens texts) stands led.stands).0
+          let occurs = letter-read tokens r has.0 led.place has.1 (subst (λ x. Reads tokens r x led.place) has.3 reads) in
+          (letter-one (spelling_of tokens) led.place r has.0 p led.letter (spelling-utf8 tokens texts) occurs led.occurs).0
 
   -- where none does
   pub back-no_passing : LeadsNowhere tokens passes span.kind number → IsBackFrom keep tokens (IsPassing passes) (At tokens span number) []
@@ -86,18 +86,18 @@ module _ (keep : Keep) (tokens : List TokenValue) (passes : ℕ → Bool) (span 
   wide-passing p texts placed has led =
       let reached = wide-reached tokens span end has in
       let same : led.place ≡ end = led.is in
-      let stands = subst (λ q. IsLetterBefore (spelling_of tokens) q p led.letter) same led.stands in
+      let occurs = subst (λ q. IsLetterBefore (spelling_of tokens) q p led.letter) same led.occurs in
       back-single keep tokens (IsPassing passes) (This tokens span end) p end span.last (led.letter ∷ [])
       (last-one tokens span placed)
-      (omega (arith, Reaches-in_front tokens (span ∷ []) end span.last placed reached, stands.stands.0, length-encode led.letter, (len_utf8_bounds led.letter).0))
-      (letter-whole (spelling_of tokens) end p led.letter stands)
+      (omega (arith, Reaches-in_front tokens (span ∷ []) end span.last placed reached, occurs.occurs.0, length-encode led.letter, (len_utf8_bounds led.letter).0))
+      (letter-whole (spelling_of tokens) end p led.letter occurs)
       (refl, reached)
       (λ r l h. (h.0, sym (held span h.1.kind h.1.number l h.1.holds).3))
       (led.letter, led.dark, led.passes_it, refl)
-      (end, inr (led.dark, stands.scalar, stands.stands), refl)
+      (end, inr (led.dark, occurs.scalar, occurs.occurs), refl)
       (λ r v has reads.
       let read = letter-read tokens r has.0 end has.1 (subst (λ x. Reads tokens r x end) has.3 reads) in
-      (letter-one (spelling_of tokens) end r has.0 p led.letter (spelling-utf8 tokens texts) read stands).0)
+      (letter-one (spelling_of tokens) end r has.0 p led.letter (spelling-utf8 tokens texts) read occurs).0)
 
   -- where none does
   pub wide-no_passing : LeadsNowhere tokens passes Place end → IsBackFrom keep tokens (IsPassing passes) (This tokens span end) []
@@ -108,7 +108,7 @@ module _ (keep : Keep) (tokens : List TokenValue) (passes : ℕ → Bool) (span 
 pub passing-meant : (tokens : List TokenValue) (passes : ℕ → Bool) (span : PlaceSpan) (p q last : ℕ) (w : Word) → Reaches tokens (span ∷ []) q last → IsPassing passes w →
     Reads tokens p w q → LeadsToSome tokens passes q
 passing-meant tokens passes span p q last w r has reads =
-    (p, record { place = q; letter = has.0; is = refl; dark = has.1; passes_it = has.2; stands = letter-read tokens p has.0 q has.1 (subst (λ x. Reads tokens p x q) has.3 reads) })
+    (p, record { place = q; letter = has.0; is = refl; dark = has.1; passes_it = has.2; occurs = letter-read tokens p has.0 q has.1 (subst (λ x. Reads tokens p x q) has.3 reads) })
 
 -- ---- the places of a stretch, one after another
 

@@ -14,17 +14,17 @@ use Rattle.lic_view.specs.LettersBefore.{IsLetterBefore}
 use Rattle.lic_reverse.specs.Streaks.{AllPass, IsChain}
 use Rattle.lic_reverse.specs.Tidily.{IsTakenBack, Taken, a_blank, a_letter}
 use Rattle.lic_view.proofs.PlaceLaws.{blanks-apart}
-use Rattle.lic_view.proofs.LastLetters.{letter-whole, letter-within, stands-drop}
+use Rattle.lic_view.proofs.LastLetters.{letter-whole, letter-within, occurs-drop}
 
 encode-blank : encode blank ≡ 0x20 ∷ []
 encode-blank = encode_ascii blank (omega arith)
 
 pub letter-forward : (bytes : List ℕ) (q p c : ℕ) → IsLetterBefore bytes q p c → p < q
-letter-forward bytes q p c is = omega (arith, is.stands.0, length-encode c, (len_utf8_bounds c).0)
+letter-forward bytes q p c is = omega (arith, is.occurs.0, length-encode c, (len_utf8_bounds c).0)
 
 -- a blank of a text is a letter before the place after it
 pub blank-before : (bytes : List ℕ) (p : ℕ) → IsTrue (is_blank_at bytes p) → IsLetterBefore bytes (suc p) p blank
-blank-before bytes p is = record { scalar = refl; stands = stands }
+blank-before bytes p is = record { scalar = refl; occurs = occurs }
   where
     byte : get_or bytes p 0 ≡ 0x20
     byte = eqb-true (get_or bytes p 0) 0x20 is
@@ -38,13 +38,13 @@ blank-before bytes p is = record { scalar = refl; stands = stands }
     here : take (suc p - p) (drop p bytes) ≡ 0x20 ∷ []
     here = ap (λ n. take n (drop p bytes)) many ∙ ap (take 1) (drop-cons bytes p 0 within) ∙ ap (λ b. b ∷ []) byte
 
-    stands : Occurs bytes p (encode blank) (suc p)
-    stands = (omega (arith, ap length encode-blank), here ∙ sym encode-blank)
+    occurs : Occurs bytes p (encode blank) (suc p)
+    occurs = (omega (arith, ap length encode-blank), here ∙ sym encode-blank)
 
 -- the letter at a blank of a text is a blank
 pub letter-blank : (bytes : List ℕ) (q p c : ℕ) → IsLetterBefore bytes q p c → IsTrue (is_blank_at bytes p) → c ≡ blank
 letter-blank bytes q p c is at =
-    let one = sym (stands-drop bytes p (encode c) q is.stands) ∙ stands-drop bytes p (encode blank) (suc p) (blank-before bytes p at).stands in
+    let one = sym (occurs-drop bytes p (encode c) q is.occurs) ∙ occurs-drop bytes p (encode blank) (suc p) (blank-before bytes p at).occurs in
     (encode_same c blank (drop q bytes) (drop (suc p) bytes) one).0
 
 -- and a blank is one of a text
@@ -55,10 +55,10 @@ blank-letter bytes q p is = (
 )
   where
     end : q ≡ suc p
-    end = omega (arith, is.stands.0, ap length encode-blank)
+    end = omega (arith, is.occurs.0, ap length encode-blank)
 
     from : drop p bytes ≡ 0x20 ∷ drop q bytes
-    from = stands-drop bytes p (encode blank) q is.stands ∙ ap (λ x. x ++ drop q bytes) encode-blank
+    from = occurs-drop bytes p (encode blank) q is.occurs ∙ ap (λ x. x ++ drop q bytes) encode-blank
 
     within : p < length bytes
     within = let long = ap length from in omega (arith, length-drop p bytes)
@@ -76,7 +76,7 @@ letter-inside bytes q p c r utf8 is end whole after before = by_chars between.0 
     parts : encode c ++ drop q bytes ≡ take (r - p) (drop p bytes) ++ drop r bytes
     parts =
         let e : p + (r - p) ≡ r = omega arith in
-        sym (stands-drop bytes p (encode c) q is.stands)
+        sym (occurs-drop bytes p (encode c) q is.occurs)
         ∙ sym (take-append-drop (r - p) (drop p bytes))
         ∙ ap (λ x. take (r - p) (drop p bytes) ++ x) (drop-drop (r - p) p bytes ∙ ap (λ n. drop n bytes) e)
 
@@ -95,14 +95,7 @@ letter-inside bytes q p c r utf8 is end whole after before = by_chars between.0 
         let one_letter : length (encode c) ≡ length (encode e) = ap (λ x. length (encode x)) both.0 in
         let size = ap length same in
         let sum = length-append (encode e) (encodes es) in
-        omega (arith, long, is.stands.0)
-
--- one more in front
-pub chain-more : (bytes : List ℕ) (passes : ℕ → Bool) (k n low place start c : ℕ) → n ≡ k + 1 → IsChain bytes passes k low place →
-    IsLetterBefore bytes low start c → passes c ≡ true → IsChain bytes passes n start place
-chain-more bytes passes k n low place start c is chain stands passing =
-    let next : n ≡ suc k = omega arith in
-    subst (λ m. IsChain bytes passes m start place) (sym next) (low, c, stands, passing, chain)
+        omega (arith, long, is.occurs.0)
 
 -- ---- what a chain spells
 
@@ -141,7 +134,7 @@ chain-spelled tokens passes t (suc count) low q texts may chain =
       passing = (chain.3, more.passing);
       long = ap suc more.long;
       taken = (more.state, inr (dark, refl), more.taken);
-      reads = (chain.0, inr (dark, chain.2.scalar, chain.2.stands), more.reads);
+      reads = (chain.0, inr (dark, chain.2.scalar, chain.2.occurs), more.reads);
     }
     by_letter more (inl is) = record {
       state = a_blank;

@@ -49,7 +49,7 @@ module _ (tokens : List TokenValue) (texts : AreTexts tokens) where
         word = chain.1 ∷ more.word;
         streak = record { passing = (chain.3, more.passing); few = omega (arith, more.long); first = chain.1; later = more.word; dark = dark; is = refl };
         taken = (more.state, inr (dark, refl), more.taken);
-        reads = subst (λ x. Reads tokens x (chain.1 ∷ more.word) q) same (chain.0, inr (dark, chain.2.scalar, chain.2.stands), more.reads);
+        reads = subst (λ x. Reads tokens x (chain.1 ∷ more.word) q) same (chain.0, inr (dark, chain.2.scalar, chain.2.occurs), more.reads);
       }
         where
           more : Spelled tokens passes t count chain.0 q
@@ -80,10 +80,10 @@ module _ (tokens : List TokenValue) (texts : AreTexts tokens) where
     at : ℕ
     is : v ≡ front ++ letter ∷ back
     reads : Reads tokens p front at
-    stands : IsLetterBefore (spelling_of tokens) r at letter
+    occurs : IsLetterBefore (spelling_of tokens) r at letter
 
   taken-letter : (p e r : ℕ) → p < r → Takes tokens p e r → IsLetterBefore (spelling_of tokens) r p e
-  taken-letter p e r below (inr is) = record { scalar = is.1; stands = is.2 }
+  taken-letter p e r below (inr is) = record { scalar = is.1; occurs = is.2 }
   taken-letter p e r below (inl is) = subst (λ x. IsLetterBefore (spelling_of tokens) r p x) (sym is.0) (by_blank p r below is.1)
     where
       by_blank : (p r : ℕ) → p < r → OverBlank tokens p r → IsLetterBefore (spelling_of tokens) r p blank
@@ -102,7 +102,7 @@ module _ (tokens : List TokenValue) (texts : AreTexts tokens) where
         at = m.at;
         is = ap (λ x. e ∷ x) m.is;
         reads = (reads.0, reads.1, m.reads);
-        stands = m.stands;
+        occurs = m.occurs;
       }
       by_order (inr past) more =
           let forward = reads-forward tokens v reads.0 r reads.2 in
@@ -114,7 +114,7 @@ module _ (tokens : List TokenValue) (texts : AreTexts tokens) where
             at = p;
             is = refl;
             reads = refl;
-            stands = taken-letter p e r below (subst (λ x. Takes tokens p e x) same reads.1);
+            occurs = taken-letter p e r below (subst (λ x. Takes tokens p e x) same reads.1);
           }
 
   record Split (count p : ℕ) (v : Word) (low : ℕ) : Type 0 where
@@ -148,7 +148,7 @@ module _ (tokens : List TokenValue) (texts : AreTexts tokens) where
           m = peel more.first p chain.0 more.reads (omega (arith, letter-forward (spelling_of tokens) chain.0 low chain.1 chain.2))
 
           same : low ≡ m.at
-          same = (letter-one (spelling_of tokens) chain.0 low chain.1 m.at m.letter (spelling-utf8 tokens texts) chain.2 m.stands).0
+          same = (letter-one (spelling_of tokens) chain.0 low chain.1 m.at m.letter (spelling-utf8 tokens texts) chain.2 m.occurs).0
 
   -- a word of so many that pass begins no further back
   pub streak-complete : (passes : ℕ → Bool) (count low q p : ℕ) (v : Word) → IsStreakStart (spelling_of tokens) passes count q low →
@@ -173,7 +173,7 @@ module _ (tokens : List TokenValue) (texts : AreTexts tokens) where
               let parts = length-append m.front (m.letter ∷ (m.back ++ s.second)) in
               let later = length-append m.back s.second in
               omega (arith, s.many)
-          by_stop (inr none) = none m.at m.letter m.stands (pass-within passes m.front m.letter (m.back ++ s.second) (subst (λ x. AllPass passes x) whole passing))
+          by_stop (inr none) = none m.at m.letter m.occurs (pass-within passes m.front m.letter (m.back ++ s.second) (subst (λ x. AllPass passes x) whole passing))
 
       by_order : (p < low) ⊎ (low ≤ p) → low ≤ p
       by_order (inl before) = absurd (never before)
@@ -190,12 +190,12 @@ module _ (tokens : List TokenValue) (texts : AreTexts tokens) where
           by_letter : Takes tokens p streak.first reads.0 → IsLetterPlace tokens p × (p < q)
           by_letter (inl is) = absurd (streak.dark is.0)
           by_letter (inr is) =
-              let stands : IsLetterBefore (spelling_of tokens) reads.0 p streak.first = record { scalar = is.1; stands = is.2 } in
-              let forward = letter-forward (spelling_of tokens) reads.0 p streak.first stands in
+              let occurs : IsLetterBefore (spelling_of tokens) reads.0 p streak.first = record { scalar = is.1; occurs = is.2 } in
+              let forward = letter-forward (spelling_of tokens) reads.0 p streak.first occurs in
               let later = reads-forward tokens streak.later reads.0 q reads.2 in (
                 record {
-                  whole = letter-whole (spelling_of tokens) reads.0 p streak.first stands;
-                  letter = λ at. streak.dark (letter-blank (spelling_of tokens) reads.0 p streak.first stands (eq-eqb (get_or (spelling_of tokens) p 0) 0x20 at));
+                  whole = letter-whole (spelling_of tokens) reads.0 p streak.first occurs;
+                  letter = λ at. streak.dark (letter-blank (spelling_of tokens) reads.0 p streak.first occurs (eq-eqb (get_or (spelling_of tokens) p 0) 0x20 at));
                 },
                 omega arith,
               )
@@ -210,7 +210,7 @@ module _ (tokens : List TokenValue) (texts : AreTexts tokens) where
       by_letter (inl at) takes = other (sym taken.2 ∙ at.2)
       by_letter (inr at) (inl is) = at.0 is.0
       by_letter (inr at) (inr is) =
-          let stands : IsLetterBefore (spelling_of tokens) q p c = subst (λ x. IsLetterBefore (spelling_of tokens) x p c) reads.2 (record { scalar = is.1; stands = is.2 }) in
+          let occurs : IsLetterBefore (spelling_of tokens) q p c = subst (λ x. IsLetterBefore (spelling_of tokens) x p c) reads.2 (record { scalar = is.1; occurs = is.2 }) in
           let gap : IsLetterBefore (spelling_of tokens) q behind.0 blank = subst (λ x. IsLetterBefore (spelling_of tokens) x behind.0 blank) (sym behind.1) (blank-before (spelling_of tokens) behind.0 behind.2) in
-          at.0 (letter-one (spelling_of tokens) q p c behind.0 blank (spelling-utf8 tokens texts) stands gap).1
+          at.0 (letter-one (spelling_of tokens) q p c behind.0 blank (spelling-utf8 tokens texts) occurs gap).1
   streak-ends (c ∷ d ∷ w) s t p q other some taken reads behind = streak-ends (d ∷ w) taken.0 t reads.0 q other (omega arith) taken.2 reads.2 behind

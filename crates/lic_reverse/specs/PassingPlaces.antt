@@ -20,7 +20,7 @@ pub record LeadsTo (tokens : List TokenValue) (passes : ℕ → Bool) (kind : Sp
   pub is : IsPlaceOf tokens kind number place
   pub dark : ¬ (letter ≡ blank)
   pub passes_it : passes letter ≡ true
-  pub stands : IsLetterBefore (spelling_of tokens) place p letter
+  pub occurs : IsLetterBefore (spelling_of tokens) place p letter
 
 -- such a letter leads to the place
 abbrev pub LeadsToSome : List TokenValue → (ℕ → Bool) → ℕ → Type 0

@@ -20,9 +20,9 @@ same_first x y xs ys rise climb in_ys in_xs =
     (λ h. ⊎_elim (λ (e : x ≡ y). e) (λ k. absurd (Precedes-both x y (rise.0 y k) (climb.0 x h))) (Contains-cons_cases x xs y in_xs))
     (Contains-cons_cases y ys x in_ys)
 
-members_behind : (x : Triple) (xs ys : List Triple) → AreAscending (x ∷ xs) →
+members_after : (x : Triple) (xs ys : List Triple) → AreAscending (x ∷ xs) →
     ((t : Triple) → Contains (x ∷ xs) t → Contains (x ∷ ys) t) → (t : Triple) → Contains xs t → Contains ys t
-members_behind x xs ys rise members t h =
+members_after x xs ys rise members t h =
     ⊎_elim (λ (e : x ≡ t). absurd (Precedes-itself t (subst (λ s. Precedes s t) e (rise.0 t h)))) (λ k. k)
     (Contains-cons_cases x ys t (members t (Contains-tail x xs t h)))
 
@@ -35,8 +35,8 @@ same_from_members (x ∷ xs) [] rise climb to from = absurd (Contains-nil x (to 
 same_from_members (x ∷ xs) (y ∷ ys) rise climb to from =
     let e : x ≡ y = same_first x y xs ys rise climb (to x (Contains-head x xs)) (from y (Contains-head y ys)) in
     let climb' : AreAscending (x ∷ ys) = subst (λ z. AreAscending (z ∷ ys)) (sym e) climb in
-    let to' = members_behind x xs ys rise (λ t h. subst (λ z. Contains (z ∷ ys) t) (sym e) (to t h)) in
-    let from' = members_behind x ys xs climb' (λ t h. from t (subst (λ z. Contains (z ∷ ys) t) e h)) in
+    let to' = members_after x xs ys rise (λ t h. subst (λ z. Contains (z ∷ ys) t) (sym e) (to t h)) in
+    let from' = members_after x ys xs climb' (λ t h. from t (subst (λ z. Contains (z ∷ ys) t) e h)) in
     ap (λ z. z ∷ xs) e ∙ ap (λ zs. y ∷ zs) (same_from_members xs ys rise.1 climb.1 to' from')
 
 -- the list has exactly the triples of which this holds, each once, in order

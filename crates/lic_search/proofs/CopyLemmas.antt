@@ -35,10 +35,6 @@ cat-later P L M same w = (
   λ cat. (cat.0, cat.1, cat.2, (same cat.1).1 cat.3, cat.4),
 )
 
--- none yet
-pub copies-end : (parts : List Part) (text : List ℕ) (end : ℕ) → AreCopies parts end text end 0
-copies-end parts text end = record { within = omega arith; words = λ w. copies-none (TextWords text) (words_from parts end) w }
-
 -- the words of a part and of those after it
 part-first : (parts : List Part) (i : ℕ) (d : Part) (w : Word) → 0 < i → i ≤ length parts →
     words_from parts (i - 1) w ↔ Cat (Language (part_words (get_or parts (i - 1) d))) (words_from parts i) w

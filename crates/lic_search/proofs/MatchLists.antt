@@ -21,9 +21,6 @@ pub record AreEnds (tokens : List TokenValue) (count : ℕ) (ends : List PlaceSp
   pub sound : (span : PlaceSpan) → Contains ends span → (last : ℕ) × (last < count) × IsEndOf tokens last span
   pub all : (last : ℕ) → last < count → (span : PlaceSpan) × Contains ends span × IsEndOf tokens last span
 
-pub AreEnds-nil : (tokens : List TokenValue) → AreEnds tokens 0 []
-AreEnds-nil tokens = record { sound = λ span among. absurd (omega (arith, among.1)); all = λ last below. absurd (omega arith) }
-
 pub AreEnds-push : (tokens : List TokenValue) (count : ℕ) (ends : List PlaceSpan) (span : PlaceSpan)
     → AreEnds tokens count ends → IsEndOf tokens count span → AreEnds tokens (count + 1) (ends ++ span ∷ [])
 AreEnds-push tokens count ends span are here = record {
@@ -97,12 +94,6 @@ pub record IsAround (found : List Range) (first last : ℕ) : Type 0 where
 pub record AreRanges (tokens : List TokenValue) (spans taken : List PlaceSpan) (found : List Range) : Type 0 where
   pub sound : (range : Range) → Contains found range → BeginsIn tokens spans range.first range.last
   pub within : (first last : ℕ) → BeginsIn tokens taken first last → IsAround found first last
-
-pub AreRanges-nil : (tokens : List TokenValue) (spans : List PlaceSpan) → AreRanges tokens spans [] []
-AreRanges-nil tokens spans = record {
-  sound = λ range among. absurd (omega (arith, among.1));
-  within = λ first last begins. absurd (omega (arith, begins.reached.holds.among.1));
-}
 
 -- from one span to a list that has it
 pub BeginsIn-among : (tokens : List TokenValue) (spans : List PlaceSpan) (span : PlaceSpan) (first last : ℕ) → Contains spans span

@@ -17,7 +17,7 @@ use Rattle.lic_view.proofs.Laws.{no_blank-end, no_blank-start, tokens_stand-firs
 use Rattle.lic_view.proofs.ViewBlanks.{over_blank-cases}
 use Rattle.lic_view.proofs.ViewPlaces.{ends-order, starts-order}
 use Rattle.lic_view.proofs.ViewSpans.{Holds-one, last-one}
-use Rattle.lic_search.proofs.MatchStarts.{behind-blank, blank-before, letter-no_blank, start-letter, start-order}
+use Rattle.lic_search.proofs.MatchStarts.{past-blank, blank-before, letter-no_blank, start-letter, start-order}
 
 -- ---- one span
 
@@ -91,7 +91,7 @@ blanks-number tokens number p first texts within letter (inl over) (inr after) =
 blanks-number tokens number p first texts within letter (inr stays) (inl at) = inl (sym at ∙ stays.0)
 blanks-number tokens number p first texts within letter (inr stays) (inr after) =
     let bytes = spelling_of tokens in
-    absurd (letter-no_blank tokens number letter (subst (λ n. IsTrue (is_blank_at bytes n)) stays.0 (behind-blank tokens p after.1)))
+    absurd (letter-no_blank tokens number letter (subst (λ n. IsTrue (is_blank_at bytes n)) stays.0 (past-blank tokens p after.1)))
 
 -- a place gives the token that begins there, or, if it is a blank, the one that begins after it
 begin-number : (tokens : List TokenValue) (kind : SpanKind) (number p first : ℕ) → kind ≢ End → AreTexts tokens → first < length tokens
@@ -102,11 +102,11 @@ begin-number tokens End number p first taken texts within place begins = absurd 
 begin-number tokens Place number p first taken texts within place (inl at) = inl (sym at ∙ place)
 begin-number tokens Place number p first taken texts within place (inr after) =
     let bytes = spelling_of tokens in
-    inr (refl, sym after.0 ∙ ap suc place, subst (λ n. IsTrue (is_blank_at bytes n)) place (behind-blank tokens p after.1))
+    inr (refl, sym after.0 ∙ ap suc place, subst (λ n. IsTrue (is_blank_at bytes n)) place (past-blank tokens p after.1))
 begin-number tokens Letters number p first taken texts within place (inl at) = inl (sym at ∙ place.0)
 begin-number tokens Letters number p first taken texts within place (inr after) =
     let bytes = spelling_of tokens in
-    absurd (letter-no_blank tokens number place.1 (subst (λ n. IsTrue (is_blank_at bytes n)) place.0 (behind-blank tokens p after.1)))
+    absurd (letter-no_blank tokens number place.1 (subst (λ n. IsTrue (is_blank_at bytes n)) place.0 (past-blank tokens p after.1)))
 begin-number tokens Blanks number p first taken texts within place begins =
     blanks-number tokens number p first texts within place.0 (over_blank-cases tokens p number place.1) begins
 

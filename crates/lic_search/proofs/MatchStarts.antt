@@ -16,11 +16,11 @@ use Rattle.lic_view.proofs.ViewPlaces.{end-within, starts-after}
 
 -- the first byte of a text that occurs somewhere begins a letter
 text-boundary : (bytes text : List ℕ) (p q : ℕ) → IsUtf8 text → Occurs bytes p text q → p < q → q ≤ length bytes → IsCharBoundary bytes p
-text-boundary bytes text p q utf8 stands order within =
+text-boundary bytes text p q utf8 occurs order within =
     let first : get_or text 0 0 ≡ get_or bytes p 0 =
-    sym (ap (λ l. get_or l 0 0) stands.1) ∙ get_or-take (q - p) (drop p bytes) 0 0 (omega arith) ∙ get_or-drop p bytes 0 0 ∙ ap (λ n. get_or bytes n 0) (add-zero p) in
+    sym (ap (λ l. get_or l 0 0) occurs.1) ∙ get_or-take (q - p) (drop p bytes) 0 0 (omega arith) ∙ get_or-drop p bytes 0 0 ∙ ap (λ n. get_or bytes n 0) (add-zero p) in
     let lead = (IsCharBoundary-start text utf8).1 in
-    (omega arith, λ inside high. omega (arith, first, lead (omega (arith, stands.0)) (omega (arith, first))))
+    (omega arith, λ inside high. omega (arith, first, lead (omega (arith, occurs.0)) (omega (arith, first))))
 
 -- a letter begins where a token begins
 pub start-letter : (tokens : List TokenValue) (i : ℕ) → AreTexts tokens → i < length tokens → IsLetterPlace tokens (place_start tokens i)
@@ -39,18 +39,18 @@ pub letter-no_blank : (tokens : List TokenValue) (p : ℕ) → IsLetterPlace tok
 letter-no_blank tokens p letter blank = letter.letter (eqb-true _ _ blank)
 
 -- a blank before a place
-pub behind-blank : (tokens : List TokenValue) (p : ℕ) → IsAfterBlank (spelling_of tokens) (suc p) → IsTrue (is_blank_at (spelling_of tokens) p)
-behind-blank tokens p behind =
+pub past-blank : (tokens : List TokenValue) (p : ℕ) → IsAfterBlank (spelling_of tokens) (suc p) → IsTrue (is_blank_at (spelling_of tokens) p)
+past-blank tokens p past =
     let bytes = spelling_of tokens in
-    let same : behind.0 ≡ p = omega (arith, behind.1) in
-    ap (λ n. is_blank_at bytes n) (sym same) ∙ behind.2
+    let same : past.0 ≡ p = omega (arith, past.1) in
+    ap (λ n. is_blank_at bytes n) (sym same) ∙ past.2
 
 -- A blank before the place at which a token begins leads from a place at which a word with this token may begin.
 pub blank-before : (tokens : List TokenValue) (first : ℕ) → AreTexts tokens → first < length tokens
     → (p : ℕ) × OverBlank tokens p (place_start tokens first) × BeginsAt tokens first p
 blank-before tokens zero texts within =
     let at : place_start tokens 0 ≡ 0 = tokens_stand-first tokens within in
-    let none : ¬ IsAfterBlank (spelling_of tokens) (place_start tokens 0) = λ behind. absurd (omega (arith, behind.1, at)) in
+    let none : ¬ IsAfterBlank (spelling_of tokens) (place_start tokens 0) = λ past. absurd (omega (arith, past.1, at)) in
     (place_start tokens 0, stays none (inl at), inl refl)
 blank-before tokens (suc k) texts within =
     elim (tokens_stand-next tokens k texts within) [

@@ -72,9 +72,6 @@ module _ (xs : List ℕ) (n : ℕ) (r : IsRising xs n) where
 pub IsRising-nil : (n : ℕ) → IsRising [] n
 IsRising-nil n = record { order = λ i h. absurd (omega arith); below = λ i h. absurd (omega arith) }
 
-pub IsRising-more : (xs : List ℕ) (m n : ℕ) → IsRising xs m → m ≤ n → IsRising xs n
-IsRising-more xs m n r h = record { order = r.order; below = λ i within. omega (arith, r.below i within) }
-
 -- a greater number after them
 pub IsRising-push : (xs : List ℕ) (m k n : ℕ) → IsRising xs m → m ≤ n → ((x : ℕ) → Contains xs x → x < k) → k < n → IsRising (xs ++ k ∷ []) n
 IsRising-push xs m k n r order less within = record {

@@ -1,5 +1,5 @@
 -- Where templates describe ranges of tokens.
-use Rattle.std.specs.Prelude.{◌≡◌, ℕ, ◌+◌, ◌<◌, ◌≤◌, ◌⊎◌, ◌↔◌, List, [], ◌∷◌, length, map, Option, Some, None, Contains, slice_range}
+use Rattle.std.specs.Prelude.{◌≡◌, ℕ, ◌+◌, ◌<◌, ◌≤◌, ◌⊎◌, ◌↔◌, ◌==◌, ◌&&◌, ◌||◌, nat_lt, Bool, List, [], ◌∷◌, length, map, Option, Some, None, Contains, slice_range}
 use Rattle.std.specs.List.{slice_get}
 use Rattle.std.specs.Str.{chars}
 use Rattle.lic_norm.specs.Tokens.{TokenValue}
@@ -22,6 +22,16 @@ pub record IsMatch (set : List Known) (tokens : List TokenValue) (t : Triple) : 
   pub known : Known
   pub number : slice_get set t.template ≡ Some known
   pub described : IsDescribed (words_of known) (letters_between tokens t.first t.last)
+
+-- the triple of these tokens and this template
+abbrev pub triple_at : ℕ → ℕ → ℕ → Triple
+triple_at first last template = record { first = first; last = last; template = template }
+
+-- whether the first triple comes before the second
+abbrev pub precedes : Triple → Triple → Bool
+precedes s t =
+    nat_lt s.first t.first || (s.first == t.first
+    && (nat_lt s.last t.last || (s.last == t.last && nat_lt s.template t.template)))
 
 -- by first token, then by last token, then by template
 abbrev pub Precedes : Triple → Triple → Type 0

@@ -87,9 +87,9 @@ impl Sink for Awaited {
             return Ok(0);
         }
         let rest = self.rest;
-        if let Some((next, behind)) = rest.split_first() {
+        if let Some((next, past)) = rest.split_first() {
             if *next == piece[0] {
-                self.rest = behind;
+                self.rest = past;
                 return Ok(1);
             }
         }

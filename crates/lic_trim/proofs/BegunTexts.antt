@@ -31,9 +31,9 @@ module _ (c d : ℕ) where
       or_right (is_whitespace a) ((c == a) && (d == b))
       (and_from (c == a) (d == b) (ap (λ z. z == a) two.first ∙ parts.0) (ap (λ z. z == b) (two.second (omega arith)) ∙ next.0))
 
-  stands_so : (way t : List ℕ) → BeginsWithTwo c d way → may_begin_with way t ≡ true → may_begin c d t ≡ true
-  stands_so way [] two stands = refl
-  stands_so way (a ∷ t) two stands = elim (or_cases (is_whitespace a) (begins_with_text way (a ∷ t)) stands) [
+  occurs_so : (way t : List ℕ) → BeginsWithTwo c d way → may_begin_with way t ≡ true → may_begin c d t ≡ true
+  occurs_so way [] two occurs = refl
+  occurs_so way (a ∷ t) two occurs = elim (or_cases (is_whitespace a) (begins_with_text way (a ∷ t)) occurs) [
     | inl white ↦ or_left (is_whitespace a) ((c == a) && may_be_next d t) white
     | inr begins ↦ begins_so way (a ∷ t) two begins
   ]
@@ -52,11 +52,11 @@ module _ (c d : ℕ) where
     no_bits : (texts : List (List ℕ)) → HasSome mask side texts → mask ≡ 0 → HasBits 0 side way texts
     no_bits texts has none = record { each = λ i lt begins. absurd (has i lt (begins_so way (walked side (get_or texts i [])) two begins) none) }
 
-    none_stands : (texts : List (List ℕ)) → HasSome mask side texts → mask ≡ 0 → list_any (λ t. may_begin_with way (walked side t)) texts ≡ false
-    none_stands texts has none = elim (cases_Bool (list_any (λ t. may_begin_with way (walked side t)) texts)) [
+    none_occurs : (texts : List (List ℕ)) → HasSome mask side texts → mask ≡ 0 → list_any (λ t. may_begin_with way (walked side t)) texts ≡ false
+    none_occurs texts has none = elim (cases_Bool (list_any (λ t. may_begin_with way (walked side t)) texts)) [
       | inl some ↦
           let found = any_some (λ t. may_begin_with way (walked side t)) texts [] some in
-          absurd (has found.0 found.1 (stands_so way (walked side (get_or texts found.0 [])) two found.2) none)
+          absurd (has found.0 found.1 (occurs_so way (walked side (get_or texts found.0 [])) two found.2) none)
       | inr off ↦ off
     ]
 
@@ -67,8 +67,8 @@ module _ (c d : ℕ) where
       spaced = no_bits (side_spaced rules side) spaced;
       repeated = no_bits (side_repeated rules side) repeated;
       closed = λ none.
-          or_off _ _ (none_stands (side_texts rules side) (λ i lt may. some_bit mask i (texts i lt may)) none)
-          (or_off _ _ (none_stands (side_spaced rules side) spaced none) (none_stands (side_repeated rules side) repeated none));
+          or_off _ _ (none_occurs (side_texts rules side) (λ i lt may. some_bit mask i (texts i lt may)) none)
+          (or_off _ _ (none_occurs (side_spaced rules side) spaced none) (none_occurs (side_repeated rules side) repeated none));
     }
 
 -- ---- the lengths of the texts whose bits were looked at

@@ -21,13 +21,13 @@ module _ (rules : LineRules) (part : LinePart) where
   lead_off text off = sym (cond-false part.has_front (longest_front (is_sequence (is_lead_piece rules)) text) 0 off)
 
   pub item_after_on : (rest chars : List ℕ) → chars ≡ rest → part.has_front ≡ true
-      → item_length rules (chars ++ option_to_list part.behind) ≡ item_after_lead rules part rest
+      → item_length rules (chars ++ option_to_list part.past) ≡ item_after_lead rules part rest
   item_after_on rest chars same on =
-      ap (λ l. item_length rules (l ++ option_to_list part.behind)) same
-      ∙ sym (cond-true part.has_front (item_length rules (rest ++ option_to_list part.behind)) 0 on)
+      ap (λ l. item_length rules (l ++ option_to_list part.past)) same
+      ∙ sym (cond-true part.has_front (item_length rules (rest ++ option_to_list part.past)) 0 on)
 
   pub item_after_off : (rest : List ℕ) → part.has_front ≡ false → 0 ≡ item_after_lead rules part rest
-  item_after_off rest off = sym (cond-false part.has_front (item_length rules (rest ++ option_to_list part.behind)) 0 off)
+  item_after_off rest off = sym (cond-false part.has_front (item_length rules (rest ++ option_to_list part.past)) 0 off)
 
   pub tail_on : (left chars : List ℕ) → chars ≡ left → part.has_end ≡ true
       → longest_front (is_sequence (is_walked_piece rules End)) (walked End chars) ≡ tail_length rules part left

@@ -5,7 +5,7 @@ use Rattle.std.proofs.lemmas.Bool.{cases_lt}
 use Rattle.std.proofs.lemmas.List.{get_or_append_left, get_or_push, length_push}
 use Rattle.lic_trim.specs.Texts.{is_sequence, greatest}
 use Rattle.lic_trim.specs.Walks.{ends_piece, AreSequences, IsStreakFront}
-use Rattle.lic_trim.proofs.SequenceLemmas.{sequence_ends, sequence_goes_on}
+use Rattle.lic_trim.proofs.SequenceLemmas.{sequence_ends, sequence_continues}
 use Rattle.lic_trim.proofs.TextLemmas.{same_truth}
 use Rattle.lic_trim.proofs.PieceEnds.{ends-true, ends-from}
 
@@ -16,7 +16,7 @@ sequence_value p flags line n sequences some flagged within = same_truth _ _
     (λ h.
     let e = ends-true flags line n p h in
     let below : e.from < n = e.below in
-    sequence_goes_on p line e.from n (omega arith) (sym (sequences.each e.from (omega arith)) ∙ e.flagged) e.piece)
+    sequence_continues p line e.from n (omega arith) (sym (sequences.each e.from (omega arith)) ∙ e.flagged) e.piece)
     (λ h.
     let e = sequence_ends p line n some within h in
     let below : e.0 < n = e.1 in

@@ -96,9 +96,9 @@ beyond_ascii c off = elim (cases_lt c 128) [ inl lt ↦ absurd (false≢true (sy
 -- a line with another first character, and what follows it
 pub no_item_line : (line : List SourceChar)
     → (is_ascii (get_or line 0 none).char || is_dash (get_or line 0 none).char || is_bullet (get_or line 0 none).char) ≡ false
-    → (rules : LineRules) (behind : List ℕ) → item_length rules (chars_of line ++ behind) ≡ 0
-no_item_line [] off rules behind = absurd (false≢true (sym off))
-no_item_line (s ∷ line) off rules behind =
+    → (rules : LineRules) (past : List ℕ) → item_length rules (chars_of line ++ past) ≡ 0
+no_item_line [] off rules past = absurd (false≢true (sym off))
+no_item_line (s ∷ line) off rules past =
     let parts = or_none (is_ascii s.char || is_dash s.char) (is_bullet s.char) off in
     let first = or_none (is_ascii s.char) (is_dash s.char) parts.0 in
-    no_item_front s.char (beyond_ascii s.char first.0) first.1 parts.1 rules (chars_of line ++ behind)
+    no_item_front s.char (beyond_ascii s.char first.0) first.1 parts.1 rules (chars_of line ++ past)

@@ -172,40 +172,40 @@ prefix_all p (x ∷ xs) ys all =
 abbrev pub lets : List ℕ → List ℕ → Bool
 lets form text = option_map_or (λ d. not (is_copyright_sign form && is_ascii_digit d)) (find (λ d. not (is_whitespace d)) text) false
 
-pub item_behind : (rules : LineRules) (line behind : List ℕ) (end : ℕ) → end ≡ position_or_len is_whitespace line → end < length line
-    → item_length rules (line ++ behind) ≡ cond (rules.items && is_item_form (take end line) && lets (take end line) (drop (end + 1) line ++ behind)) end 0
-item_behind rules line behind end is within =
-    let text = line ++ behind in
+pub item_after : (rules : LineRules) (line past : List ℕ) (end : ℕ) → end ≡ position_or_len is_whitespace line → end < length line
+    → item_length rules (line ++ past) ≡ cond (rules.items && is_item_form (take end line) && lets (take end line) (drop (end + 1) line ++ past)) end 0
+item_after rules line past end is within =
+    let text = line ++ past in
     let place : position_or_len is_whitespace text ≡ end =
-    prefix_append (λ c. not (is_whitespace c)) line behind (subst (λ n. n < length line) is within) ∙ sym is in
-    let form : before_first is_whitespace text ≡ take end line = ap (λ n. take n text) place ∙ take-append-le end line behind (omega arith) in
+    prefix_append (λ c. not (is_whitespace c)) line past (subst (λ n. n < length line) is within) ∙ sym is in
+    let form : before_first is_whitespace text ≡ take end line = ap (λ n. take n text) place ∙ take-append-le end line past (omega arith) in
     let long : length (take end line) ≡ end = length-take-le end line (omega arith) in
     let c = get_or line end 0 in
     let white : is_whitespace c ≡ true =
     ap (λ n. is_whitespace (get_or line n 0)) is
     ∙ passes_at_first is_whitespace line 0 (subst (λ n. n < length line) is within) in
     let next : drop end line ≡ c ∷ drop (end + 1) line = rw (add-one, drop-cons line end 0) refl in
-    let rest : drop end text ≡ c ∷ (drop (end + 1) line ++ behind) = drop-append-le end line behind (omega arith) ∙ ap (λ l. l ++ behind) next in
-    let allowed : lets_item (take end line) (drop (length (take end line)) text) ≡ lets (take end line) (drop (end + 1) line ++ behind) =
+    let rest : drop end text ≡ c ∷ (drop (end + 1) line ++ past) = drop-append-le end line past (omega arith) ∙ ap (λ l. l ++ past) next in
+    let allowed : lets_item (take end line) (drop (length (take end line)) text) ≡ lets (take end line) (drop (end + 1) line ++ past) =
     ap (λ n. lets_item (take end line) (drop n text)) long ∙ ap (lets_item (take end line)) rest
-    ∙ ap (λ b. b && lets (take end line) (drop (end + 1) line ++ behind)) white in
+    ∙ ap (λ b. b && lets (take end line) (drop (end + 1) line ++ past)) white in
     ap (λ f. cond (rules.items && is_item_form f && lets_item f (drop (length f) text)) (length f) 0) form
     ∙ ap₂ (λ b n. cond (rules.items && is_item_form (take end line) && b) n 0) allowed long
 
 -- the same, over source characters
-pub item_value : (rules : LineRules) (line : List SourceChar) (behind : List ℕ) (end : ℕ)
+pub item_value : (rules : LineRules) (line : List SourceChar) (past : List ℕ) (end : ℕ)
     → end ≡ position_or_len is_whitespace (chars_of line) → end < length line
-    → item_length rules (chars_of line ++ behind)
+    → item_length rules (chars_of line ++ past)
     ≡ cond (rules.items && is_item_form (chars_of (take end line))
     && lets (chars_of (take end line))
-    (chars_of (take (length line - (end + 1)) (drop (end + 1) line)) ++ behind)) end 0
-item_value rules line behind end is within =
+    (chars_of (take (length line - (end + 1)) (drop (end + 1) line)) ++ past)) end 0
+item_value rules line past end is within =
     let many : length (chars_of line) ≡ length line = length-map line char_of in
     let front : take end (chars_of line) ≡ chars_of (take end line) = take-map char_of end line in
     let rest : drop (end + 1) (chars_of line) ≡ chars_of (take (length line - (end + 1)) (drop (end + 1) line)) =
     drop-map char_of (end + 1) line ∙ ap chars_of (sym (take_rest line (end + 1))) in
-    item_behind rules (chars_of line) behind end is (omega arith)
-    ∙ (λ i. cond (rules.items && is_item_form (front i) && lets (front i) (rest i ++ behind)) end 0)
+    item_after rules (chars_of line) past end is (omega arith)
+    ∙ (λ i. cond (rules.items && is_item_form (front i) && lets (front i) (rest i ++ past)) end 0)
 
 pub item_on : (a b c : Bool) (n : ℕ) → a ≡ true → b ≡ true → c ≡ true → n ≡ cond (a && b && c) n 0
 item_on true true true n on form lets' = refl
@@ -229,13 +229,13 @@ lets_short form (c ∷ []) h = never (is_whitespace c)
 lets_short form (c ∷ d ∷ text) h = absurd (omega arith)
 
 -- no item where no white space follows in the line
-pub item_none : (rules : LineRules) (line behind : List ℕ) → length line ≤ position_or_len is_whitespace line
-    → length behind ≤ 1 → item_length rules (line ++ behind) ≡ 0
-item_none rules line behind all few =
-    let text = line ++ behind in
+pub item_none : (rules : LineRules) (line past : List ℕ) → length line ≤ position_or_len is_whitespace line
+    → length past ≤ 1 → item_length rules (line ++ past) ≡ 0
+item_none rules line past all few =
+    let text = line ++ past in
     let m = position_or_len is_whitespace text in
-    let long : length text ≡ length line + length behind = length-append line behind in
-    let reaches : length line ≤ m = prefix_all (λ c. not (is_whitespace c)) line behind all in
+    let long : length text ≡ length line + length past = length-append line past in
+    let reaches : length line ≤ m = prefix_all (λ c. not (is_whitespace c)) line past all in
     let form = before_first is_whitespace text in
     let form_long : length line ≤ length form = omega (arith, length-take m text) in
     let short : length (drop (length form) text) ≤ 1 = omega (arith, length-drop (length form) text) in
@@ -247,23 +247,23 @@ item_none rules line behind all few =
     never true = refl
     never false = refl
 
-pub few_behind : (behind : Option ℕ) → length (option_to_list behind) ≤ 1
-few_behind None = omega arith
-few_behind (Some c) = omega arith
+pub few_after : (past : Option ℕ) → length (option_to_list past) ≤ 1
+few_after None = omega arith
+few_after (Some c) = omega arith
 
 -- ---- the first character that is not white space
-pub find_here : (text : List SourceChar) (behind : List ℕ) (i : ℕ) → i < length text → is_whitespace (get_or text i none).char ≡ false
-    → find (λ c. not (is_whitespace c)) (chars_of (drop i text) ++ behind) ≡ Some (get_or text i none).char
-find_here text behind i lt dark =
+pub find_here : (text : List SourceChar) (past : List ℕ) (i : ℕ) → i < length text → is_whitespace (get_or text i none).char ≡ false
+    → find (λ c. not (is_whitespace c)) (chars_of (drop i text) ++ past) ≡ Some (get_or text i none).char
+find_here text past i lt dark =
     let rest : drop i text ≡ get_or text i none ∷ drop (i + 1) text = rw (add-one, drop-cons text i none) refl in
-    ap (λ l. find (λ c. not (is_whitespace c)) (chars_of l ++ behind)) rest
+    ap (λ l. find (λ c. not (is_whitespace c)) (chars_of l ++ past)) rest
     ∙ cond-true (not (is_whitespace (get_or text i none).char)) _ _ (ap not dark)
 
-pub find_later : (text : List SourceChar) (behind : List ℕ) (i : ℕ) → i < length text → is_whitespace (get_or text i none).char ≡ true
-    → find (λ c. not (is_whitespace c)) (chars_of (drop i text) ++ behind) ≡ find (λ c. not (is_whitespace c)) (chars_of (drop (i + 1) text) ++ behind)
-find_later text behind i lt white =
+pub find_later : (text : List SourceChar) (past : List ℕ) (i : ℕ) → i < length text → is_whitespace (get_or text i none).char ≡ true
+    → find (λ c. not (is_whitespace c)) (chars_of (drop i text) ++ past) ≡ find (λ c. not (is_whitespace c)) (chars_of (drop (i + 1) text) ++ past)
+find_later text past i lt white =
     let rest : drop i text ≡ get_or text i none ∷ drop (i + 1) text = rw (add-one, drop-cons text i none) refl in
-    ap (λ l. find (λ c. not (is_whitespace c)) (chars_of l ++ behind)) rest
+    ap (λ l. find (λ c. not (is_whitespace c)) (chars_of l ++ past)) rest
     ∙ cond-false (not (is_whitespace (get_or text i none).char)) _ _ (ap not white)
 
 -- ---- what the loop over numbers says

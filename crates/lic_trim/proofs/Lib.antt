@@ -10,6 +10,8 @@ pub mod SideEnds
 pub mod TailSequences
 pub mod Stops
 pub mod SpaceSequences
+pub mod PlainEdges
+pub mod TextEdges
 pub mod BeginningTexts
 pub mod PieceLengths
 pub mod SeparatorLengths

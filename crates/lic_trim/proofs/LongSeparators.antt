@@ -16,7 +16,7 @@ use Rattle.lic_trim.specs.Walks.{Side, walked, is_walked_piece, side_texts, side
 use Rattle.lic_trim.proofs.KindEnds.{space_parts}
 use Rattle.lic_trim.proofs.PieceLengths.{only_first}
 use Rattle.lic_trim.proofs.PieceEnds.{length_part, slice_at, separator_parts, separator_from}
-use Rattle.lic_trim.proofs.SequenceLemmas.{sequence_goes_on}
+use Rattle.lic_trim.proofs.SequenceLemmas.{sequence_continues}
 use Rattle.lic_trim.proofs.SequencePlaces.{AreEnds}
 use Rattle.lic_trim.proofs.SideEnds.{walked_piece}
 use Rattle.lic_trim.proofs.Stops.{any_some, ends_in-length}
@@ -149,7 +149,7 @@ module _ (rules : LineRules) (side : Side) (way : List ℕ) (at far all : ℕ) (
       let start : at + 0 ≡ at = omega arith in
       let here : is_sequence p (take at way) ≡ true = ap (λ n. is_sequence p (take n way)) (sym start) ∙ (are.sound 0 refl).1 in
       let sequence_to = λ (m : ℕ) (low : at + 3 ≤ m) (high : m ≤ end).
-      sequence_goes_on p way at m (omega arith) here (is_separator_to m low high) in
+      sequence_continues p way at m (omega arith) here (is_separator_to m low high) in
       record {
         sound = λ d bit. elim (cases_lt d (is.reach + 2)) [
           | inl inside ↦ (omega (arith, is.end, is.streak.within), sequence_to (far + d) (omega (arith, is.beyond)) (omega (arith, is.end)))
@@ -170,5 +170,5 @@ module _ (rules : LineRules) (side : Side) (way : List ℕ) (at far all : ℕ) (
         before = λ m low sequence. omega arith;
         sequence = sequence_to far is.beyond (omega (arith, is.end));
         within = omega (arith, is.end, is.streak.within);
-        behind = omega arith;
+        past = omega arith;
       }

@@ -9,7 +9,7 @@ use Rattle.std.proofs.lemmas.List.{length-append, append-nil, take_more, take_al
 use Rattle.lic_kind.specs.LineRules.{LineRules}
 use Rattle.lic_trim.specs.Lines.{is_number, is_letter, is_roman, is_bullet_item, is_number_item, is_letter_item, is_item_in_parentheses, is_item_form, item_length}
 use Rattle.lic_trim.proofs.PieceEnds.{ends_in-snoc}
-use Rattle.lic_trim.proofs.ItemLemmas.{numbers_is, numbers_after, item_behind, item_none, item_off, lets}
+use Rattle.lic_trim.proofs.ItemLemmas.{numbers_is, numbers_after, item_after, item_none, item_off, lets}
 
 -- the signs that an item ends in
 abbrev pub ends_item : ℕ → Bool
@@ -114,7 +114,7 @@ no_item_form word long why =
 pub no_item : (rules : LineRules) (line : List ℕ) (end : ℕ) → end ≡ position_or_len is_whitespace line
     → end < length line → is_item_form (take end line) ≡ false → item_length rules line ≡ 0
 no_item rules line end is within none =
-    ap (item_length rules) (sym (append-nil line)) ∙ item_behind rules line [] end is within
+    ap (item_length rules) (sym (append-nil line)) ∙ item_after rules line [] end is within
     ∙ sym (item_off rules.items (is_item_form (take end line)) (lets (take end line) (drop (end + 1) line ++ [])) end
     (ap (λ b. b && lets (take end line) (drop (end + 1) line ++ [])) none))
 

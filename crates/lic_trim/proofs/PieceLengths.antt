@@ -12,7 +12,7 @@ pub use Rattle.lic_kind.proofs.BeginningLemmas.{has_bit_or}
 use Rattle.lic_kind.specs.LineRules.{LineRules}
 use Rattle.lic_trim.specs.Beginnings.{HasBits, HasBegun}
 use Rattle.lic_trim.specs.Lines.{is_space, is_separator, repeats}
-use Rattle.lic_trim.specs.PieceLengths.{has_bit, begins_with_length, begins_with_separator, begins_with_spaced, goes_on, AreLengths}
+use Rattle.lic_trim.specs.PieceLengths.{has_bit, begins_with_length, begins_with_separator, begins_with_spaced, continues, AreLengths}
 use Rattle.lic_trim.specs.Texts.{ends_in}
 use Rattle.lic_trim.specs.Walks.{Side, Front, End, walked, is_walked_piece, side_texts, side_spaced, side_repeated, begins_with_text}
 use Rattle.lic_trim.proofs.PieceEnds.{ends_in-snoc}
@@ -57,36 +57,36 @@ apart a b other = ⊎_elim (λ yes. absurd (other (eqb-true a b yes))) (λ no. n
 
 -- ---- a text at the start of a way
 
-stands_is : (way t : List ℕ) → begins_with_text way t ≡ true → (length t ≤ length way) × (take (length t) way ≡ t)
-stands_is way [] h = (omega arith, refl)
-stands_is [] (c ∷ t) h = absurd (false≢true h)
-stands_is (d ∷ way) (c ∷ t) h =
+occurs_is : (way t : List ℕ) → begins_with_text way t ≡ true → (length t ≤ length way) × (take (length t) way ≡ t)
+occurs_is way [] h = (omega arith, refl)
+occurs_is [] (c ∷ t) h = absurd (false≢true h)
+occurs_is (d ∷ way) (c ∷ t) h =
     let parts = and_parts (d == c) (begins_with_text way t) h in
-    let rest = stands_is way t parts.1 in
+    let rest = occurs_is way t parts.1 in
     (omega (arith, rest.0), ap₂ (λ a l. a ∷ l) (eqb-true d c parts.0) rest.1)
 
-stands_take : (way : List ℕ) (n : ℕ) → begins_with_text way (take n way) ≡ true
-stands_take way zero = refl
-stands_take [] (suc n) = refl
-stands_take (d ∷ way) (suc n) = and_from (d == d) (begins_with_text way (take n way)) (eq-eqb d d refl) (stands_take way n)
+occurs_take : (way : List ℕ) (n : ℕ) → begins_with_text way (take n way) ≡ true
+occurs_take way zero = refl
+occurs_take [] (suc n) = refl
+occurs_take (d ∷ way) (suc n) = and_from (d == d) (begins_with_text way (take n way)) (eq-eqb d d refl) (occurs_take way n)
 
-stands_front : (t more : List ℕ) → begins_with_text (t ++ more) t ≡ true
-stands_front [] more = refl
-stands_front (c ∷ t) more = and_from (c == c) (begins_with_text (t ++ more) t) (eq-eqb c c refl) (stands_front t more)
+occurs_front : (t more : List ℕ) → begins_with_text (t ++ more) t ≡ true
+occurs_front [] more = refl
+occurs_front (c ∷ t) more = and_from (c == c) (begins_with_text (t ++ more) t) (eq-eqb c c refl) (occurs_front t more)
 
 -- every character is the same
-pub stands_each : (way t : List ℕ) → length t ≤ length way → ((k : ℕ) → k < length t → get_or way k 0 ≡ get_or t k 0) → begins_with_text way t ≡ true
-stands_each way [] long each = refl
-stands_each [] (c ∷ t) long each = absurd (omega arith)
-stands_each (d ∷ way) (c ∷ t) long each =
-    and_from (d == c) (begins_with_text way t) (eq-eqb d c (each 0 (omega arith))) (stands_each way t (omega arith) (λ k lt. each (suc k) (omega arith)))
+pub occurs_each : (way t : List ℕ) → length t ≤ length way → ((k : ℕ) → k < length t → get_or way k 0 ≡ get_or t k 0) → begins_with_text way t ≡ true
+occurs_each way [] long each = refl
+occurs_each [] (c ∷ t) long each = absurd (omega arith)
+occurs_each (d ∷ way) (c ∷ t) long each =
+    and_from (d == c) (begins_with_text way t) (eq-eqb d c (each 0 (omega arith))) (occurs_each way t (omega arith) (λ k lt. each (suc k) (omega arith)))
 
 text_is : (way t : List ℕ) (n : ℕ) → n ≤ length way → bytes_eq t (take n way) ≡ begins_with_length n way t
 text_is way t n le = same_truth _ _
     (λ h. let same : t ≡ take n way = (bytes_eq-Decides t (take n way)).0 h in
-    and_from (begins_with_text way t) (length t == n) (ap (begins_with_text way) same ∙ stands_take way n) (eq-eqb (length t) n (ap length same ∙ length-take-le n way le)))
+    and_from (begins_with_text way t) (length t == n) (ap (begins_with_text way) same ∙ occurs_take way n) (eq-eqb (length t) n (ap length same ∙ length-take-le n way le)))
     (λ h. let parts = and_parts (begins_with_text way t) (length t == n) h in
-    (bytes_eq-Decides t (take n way)).1 (sym (stands_is way t parts.0).1 ∙ ap (λ k. take k way) (eqb-true (length t) n parts.1)))
+    (bytes_eq-Decides t (take n way)).1 (sym (occurs_is way t parts.0).1 ∙ ap (λ k. take k way) (eqb-true (length t) n parts.1)))
 
 spaced_is : (way t : List ℕ) (n : ℕ) → 0 < n → n ≤ length way → ends_in is_whitespace (bytes_eq t) (take n way) ≡ begins_with_spaced n way t
 spaced_is way t zero some le = absurd (omega arith)
@@ -96,9 +96,9 @@ spaced_is way t (suc k) some le =
     ap (ends_in is_whitespace (bytes_eq t)) (take-suc way k 0 (omega arith)) ∙ ends_in-snoc is_whitespace (bytes_eq t) front last
     ∙ same_truth _ _
     (λ h. let parts = and_parts (is_whitespace last) (bytes_eq t front) h in
-    let stands = and_parts (begins_with_text way t) (length t == k) (sym (text_is way t k (omega arith)) ∙ parts.1) in
-    let long : length t ≡ k = eqb-true (length t) k stands.1 in
-    and_from (begins_with_text way t) (is_whitespace (get_or way (length t) 0) && (suc (length t) == suc k)) stands.0
+    let occurs = and_parts (begins_with_text way t) (length t == k) (sym (text_is way t k (omega arith)) ∙ parts.1) in
+    let long : length t ≡ k = eqb-true (length t) k occurs.1 in
+    and_from (begins_with_text way t) (is_whitespace (get_or way (length t) 0) && (suc (length t) == suc k)) occurs.0
     (and_from (is_whitespace (get_or way (length t) 0)) (suc (length t) == suc k)
     (ap (λ i. is_whitespace (get_or way i 0)) long ∙ parts.0) (eq-eqb (suc (length t)) (suc k) (ap suc long))))
     (λ h. let parts = and_parts (begins_with_text way t) (is_whitespace (get_or way (length t) 0) && (suc (length t) == suc k)) h in
@@ -132,34 +132,34 @@ module _ (way : List ℕ) (c : ℕ) (rest : List ℕ) (n : ℕ) (le : n ≤ leng
   repeats_once : reverse x ≡ t → begins_with_length n way (reverse t) ≡ true
   repeats_once e =
       let same : x ≡ reverse t = sym (reverse-reverse x) ∙ ap reverse e in
-      and_from (begins_with_text way (reverse t)) (length (reverse t) == n) (ap (begins_with_text way) (sym same) ∙ stands_take way n)
+      and_from (begins_with_text way (reverse t)) (length (reverse t) == n) (ap (begins_with_text way) (sym same) ∙ occurs_take way n)
       (eq-eqb (length (reverse t)) n (ap length (sym same) ∙ length-take-le n way le))
 
-  repeats_more : (front : List ℕ) → reverse x ≡ front ++ (c ∷ t) → goes_on way t ≡ true
+  repeats_more : (front : List ℕ) → reverse x ≡ front ++ (c ∷ t) → continues way t ≡ true
   repeats_more front e =
-      let behind = reverse front ++ drop n way in
+      let past = reverse front ++ drop n way in
       let part : x ≡ (reverse t ++ c ∷ []) ++ reverse front =
       sym (reverse-reverse x) ∙ ap reverse e ∙ reverse-append front (c ∷ t) ∙ ap (λ l. l ++ reverse front) (reverse-append (c ∷ []) t) in
-      let whole : way ≡ reverse t ++ c ∷ behind =
+      let whole : way ≡ reverse t ++ c ∷ past =
       sym (take-append-drop n way) ∙ ap (λ l. l ++ drop n way) part ∙ append_assoc (reverse t ++ c ∷ []) (reverse front) (drop n way)
-      ∙ append_assoc (reverse t) (c ∷ []) behind in
+      ∙ append_assoc (reverse t) (c ∷ []) past in
       let long : length (reverse t) ≡ suc (length rest) = length-reverse t in
-      let more : suc (length rest) < length way = omega (arith, ap length whole, length-append (reverse t) (c ∷ behind), long) in
+      let more : suc (length rest) < length way = omega (arith, ap length whole, length-append (reverse t) (c ∷ past), long) in
       let next : get_or way (suc (length rest)) 0 ≡ c =
-      ap (λ l. get_or l (suc (length rest)) 0) whole ∙ ap (λ k. get_or (reverse t ++ c ∷ behind) k 0) (sym long) ∙ get_or-append_seam (reverse t) c behind 0 in
+      ap (λ l. get_or l (suc (length rest)) 0) whole ∙ ap (λ k. get_or (reverse t ++ c ∷ past) k 0) (sym long) ∙ get_or-append_seam (reverse t) c past 0 in
       and_from (begins_with_text way (reverse t)) (nat_lt (suc (length rest)) (length way) && (get_or way (suc (length rest)) 0 == c))
-      (ap (λ l. begins_with_text l (reverse t)) whole ∙ stands_front (reverse t) (c ∷ behind))
+      (ap (λ l. begins_with_text l (reverse t)) whole ∙ occurs_front (reverse t) (c ∷ past))
       (and_from (nat_lt (suc (length rest)) (length way)) (get_or way (suc (length rest)) 0 == c)
       (lt-ltb (suc (length rest)) (length way) more) (eq-eqb (get_or way (suc (length rest)) 0) c next))
 
   repeats_here : begins_with_length n way (reverse t) ≡ true → repeats t (reverse x) ≡ true
   repeats_here h =
       let parts = and_parts (begins_with_text way (reverse t)) (length (reverse t) == n) h in
-      let same : x ≡ reverse t = ap (λ k. take k way) (sym (eqb-true (length (reverse t)) n parts.1)) ∙ (stands_is way (reverse t) parts.0).1 in
+      let same : x ≡ reverse t = ap (λ k. take k way) (sym (eqb-true (length (reverse t)) n parts.1)) ∙ (occurs_is way (reverse t) parts.0).1 in
       ap (repeats t) (ap reverse same ∙ reverse-reverse t)
       ∙ and_from (c == c) (bytes_eq rest rest || repeats t rest) (eq-eqb c c refl) (or_left (bytes_eq rest rest) (repeats t rest) ((bytes_eq-Decides rest rest).1 refl))
 
-repeated_is : (way t : List ℕ) (n : ℕ) → 0 < n → n ≤ length way → goes_on way t ≡ false → repeats t (reverse (take n way)) ≡ begins_with_length n way (reverse t)
+repeated_is : (way t : List ℕ) (n : ℕ) → 0 < n → n ≤ length way → continues way t ≡ false → repeats t (reverse (take n way)) ≡ begins_with_length n way (reverse t)
 repeated_is way [] zero some le off = absurd (omega arith)
 repeated_is way [] (suc n) some le off = sym (apart 0 (suc n) (λ e. omega arith))
 repeated_is way (c ∷ rest) n some le off = same_truth _ _
@@ -192,7 +192,7 @@ lengths rules side way n =
     || (list_any (λ t. begins_with_spaced n way (walked side t)) (side_spaced rules side) || list_any (λ t. begins_with_length n way (reverse t)) (side_repeated rules side))
 
 piece_is : (rules : LineRules) (side : Side) (way : List ℕ) (n : ℕ) → 0 < n → n ≤ length way
-    → list_any (goes_on way) (side_repeated rules side) ≡ false → is_walked_piece rules side (take n way) ≡ lengths rules side way n
+    → list_any (continues way) (side_repeated rules side) ≡ false → is_walked_piece rules side (take n way) ≡ lengths rules side way n
 piece_is rules side way n some le off =
     let x = take n way in
     let marks : (rules.separators && is_separator x) ≡ begins_with_separator rules.separators n way =
@@ -203,13 +203,13 @@ piece_is rules side way n some le off =
     ∙ ap₂ (λ a b. a || b)
     (ap₂ (λ a b. a || b) spaces (same_any _ _ (side_texts rules side) (λ t. text_is way (walked side t) n le)))
     (ap₂ (λ a b. a || b) (same_any _ _ (side_spaced rules side) (λ t. spaced_is way (walked side t) n some le))
-    (same_any_where _ _ (goes_on way) (side_repeated rules side) off (λ t none. repeated_is way t n some le none)))
+    (same_any_where _ _ (continues way) (side_repeated rules side) off (λ t none. repeated_is way t n some le none)))
 
 -- nothing of them is longer than the way
 no_text_beyond : (n : ℕ) (way t : List ℕ) → length way < n → begins_with_length n way t ≡ false
 no_text_beyond n way t far = ⊎_elim
     (λ h. let parts = and_parts (begins_with_text way t) (length t == n) h in
-    absurd (omega (arith, (stands_is way t parts.0).0, eqb-true (length t) n parts.1)))
+    absurd (omega (arith, (occurs_is way t parts.0).0, eqb-true (length t) n parts.1)))
     (λ none. none)
     (cases_Bool (begins_with_length n way t))
 
@@ -234,7 +234,7 @@ no_blank_beyond rules n way some far =
 
 -- the bits of all kinds are the lengths of the pieces
 pub all_lengths : (rules : LineRules) (side : Side) (way : List ℕ) (mask : ℕ) → 0 < length way
-    → list_any (goes_on way) (side_repeated rules side) ≡ false → ((n : ℕ) → has_bit mask n ≡ lengths rules side way n) → AreLengths rules side way mask
+    → list_any (continues way) (side_repeated rules side) ≡ false → ((n : ℕ) → has_bit mask n ≡ lengths rules side way n) → AreLengths rules side way mask
 all_lengths rules side way mask long off is = record {
   each = λ n some. is n ∙ ⊎_elim
       (λ far. none n far ∙ sym (ap (λ b. b && is_walked_piece rules side (take n way)) (lt-leb n (length way) far)))
@@ -268,7 +268,7 @@ none_repeated : (rules : LineRules) (test : List ℕ → Bool) (side : Side) (wa
 none_repeated rules test Front way begins bits = refl
 none_repeated rules test End way begins bits = none_of test End way rules.tail_repeat begins bits
 
-goes_begins : (way t : List ℕ) → goes_on way t ≡ true → begins_with_text way (reverse t) ≡ true
+goes_begins : (way t : List ℕ) → continues way t ≡ true → begins_with_text way (reverse t) ≡ true
 goes_begins way [] h = absurd (false≢true h)
 goes_begins way (c ∷ t) h =
     (and_parts (begins_with_text way (reverse (c ∷ t))) (nat_lt (suc (length t)) (length way) && (get_or way (suc (length t)) 0 == c)) h).0
@@ -276,7 +276,7 @@ goes_begins way (c ∷ t) h =
 pub space_lengths : (rules : LineRules) (side : Side) (way : List ℕ) (mask : ℕ) → 0 < length way → HasBegun rules side way 0
     → ((n : ℕ) → has_bit mask n ≡ blank rules way n) → AreLengths rules side way mask
 space_lengths rules side way mask long none is =
-    all_lengths rules side way mask long (none_repeated rules (goes_on way) side way (goes_begins way) (none.repeated refl))
+    all_lengths rules side way mask long (none_repeated rules (continues way) side way (goes_begins way) (none.repeated refl))
     (λ n. is n ∙ sym (ap₂ (λ a b. a || b)
     (ap (λ b. blank rules way n || b)
     (none_of (λ t. begins_with_length n way (walked side t)) side way (side_texts rules side)
@@ -291,23 +291,23 @@ space_lengths rules side way mask long none is =
 
 -- ---- a repeated text that does not continue
 
-pub goes_on_empty : (way t : List ℕ) → length t ≡ 0 → goes_on way t ≡ false
-goes_on_empty way [] none = refl
-goes_on_empty way (c ∷ t) none = absurd (omega arith)
+pub continues_empty : (way t : List ℕ) → length t ≡ 0 → continues way t ≡ false
+continues_empty way [] none = refl
+continues_empty way (c ∷ t) none = absurd (omega arith)
 
-pub goes_on_apart : (way t : List ℕ) → begins_with_text way (reverse t) ≡ false → goes_on way t ≡ false
-goes_on_apart way [] off = refl
-goes_on_apart way (c ∷ t) off = ap (λ b. b && (nat_lt (suc (length t)) (length way) && (get_or way (suc (length t)) 0 == c))) off
+pub continues_apart : (way t : List ℕ) → begins_with_text way (reverse t) ≡ false → continues way t ≡ false
+continues_apart way [] off = refl
+continues_apart way (c ∷ t) off = ap (λ b. b && (nat_lt (suc (length t)) (length way) && (get_or way (suc (length t)) 0 == c))) off
 
-pub goes_on_short : (way t : List ℕ) → length way ≤ length t → goes_on way t ≡ false
-goes_on_short way [] short = refl
-goes_on_short way (c ∷ t) short =
+pub continues_short : (way t : List ℕ) → length way ≤ length t → continues way t ≡ false
+continues_short way [] short = refl
+continues_short way (c ∷ t) short =
     ap (λ b. begins_with_text way (reverse (c ∷ t)) && (b && (get_or way (suc (length t)) 0 == c))) (le-ltb (suc (length t)) (length way) short)
     ∙ and-false (begins_with_text way (reverse (c ∷ t)))
 
-pub goes_on_other : (way t : List ℕ) (d : ℕ) → (get_or way (length t) 0 == get_or t 0 d) ≡ false → goes_on way t ≡ false
-goes_on_other way [] d other = refl
-goes_on_other way (c ∷ t) d other =
+pub continues_other : (way t : List ℕ) (d : ℕ) → (get_or way (length t) 0 == get_or t 0 d) ≡ false → continues way t ≡ false
+continues_other way [] d other = refl
+continues_other way (c ∷ t) d other =
     ap (λ b. begins_with_text way (reverse (c ∷ t)) && (nat_lt (suc (length t)) (length way) && b)) other
     ∙ ap (λ b. begins_with_text way (reverse (c ∷ t)) && b) (and-false (nat_lt (suc (length t)) (length way)))
     ∙ and-false (begins_with_text way (reverse (c ∷ t)))

@@ -110,8 +110,8 @@ module _ {A : Type 0} (p : List A → Bool) where
       (ends_pieces sequence.0 sequence.1)
 
   -- a sequence and a piece after it are a sequence
-  pub sequence_goes_on : (line : List A) (j n : ℕ) → j ≤ n → is_sequence p (take j line) ≡ true → p (slice_range line j n) ≡ true → is_sequence p (take n line) ≡ true
-  sequence_goes_on line j n h sequence piece =
+  pub sequence_continues : (line : List A) (j n : ℕ) → j ≤ n → is_sequence p (take j line) ≡ true → p (slice_range line j n) ≡ true → is_sequence p (take n line) ≡ true
+  sequence_continues line j n h sequence piece =
       subst (λ l. is_sequence p l ≡ true) (cut_front line j n h)
       (is_sequence-complete _ (sequence_push (take j line) (slice_range line j n) (is_sequence-sound (take j line) sequence) piece))
 

@@ -13,7 +13,7 @@ use Rattle.lic_trim.specs.Texts.{is_sequence, greatest, longest_front}
 use Rattle.lic_trim.specs.Walks.{Side, is_walked_piece}
 use Rattle.lic_trim.proofs.PieceLengths.{has_bit_zero, or-false, space_bit, space_lengths, next_with}
 use Rattle.lic_trim.proofs.SeparatorLengths.{bits_of_word}
-use Rattle.lic_trim.proofs.SequenceLemmas.{sequence_ends, sequence_goes_on}
+use Rattle.lic_trim.proofs.SequenceLemmas.{sequence_ends, sequence_continues}
 use Rattle.lic_trim.proofs.TailSequences.{greatest_stays, greatest_le}
 
 -- bit d says whether a sequence ends d places on from here, where all sequences that end before are followed
@@ -24,7 +24,7 @@ pub record AreEnds (p : List ℕ → Bool) (way : List ℕ) (at ends longest : �
   pub before : (m : ℕ) → m < at → is_sequence p (take m way) ≡ true → m ≤ longest
   pub sequence : is_sequence p (take longest way) ≡ true
   pub within : longest ≤ length way
-  pub behind : longest ≤ at
+  pub past : longest ≤ at
 
 -- the ends one place on: those that were known, and where a sequence ends here those of the pieces that are here
 abbrev pub next_ends : (List ℕ → Bool) → List ℕ → ℕ → ℕ → ℕ → Bool
@@ -38,7 +38,7 @@ start_ends p way ends only one = record {
   before = λ m low. absurd (omega arith);
   sequence = refl;
   within = omega arith;
-  behind = omega arith;
+  past = omega arith;
 }
 
 module _ (p : List ℕ → Bool) (way : List ℕ) (at ends longest : ℕ) (are : AreEnds p way at ends longest) where
@@ -64,7 +64,7 @@ module _ (p : List ℕ → Bool) (way : List ℕ) (at ends longest : ℕ) (are :
         let start : at + 0 ≡ at = omega arith in
         let size : suc d ≡ at + 1 + d - at = omega arith in (
           omega (arith, long),
-          sequence_goes_on p way at (at + 1 + d) (omega arith) (ap (λ k. is_sequence p (take k way)) (sym start) ∙ (are.sound 0 bit).1)
+          sequence_continues p way at (at + 1 + d) (omega arith) (ap (λ k. is_sequence p (take k way)) (sym start) ∙ (are.sound 0 bit).1)
               (ap (λ n. p (take n (drop at way))) (sym size) ∙ parts.1),
         )
 
@@ -104,7 +104,7 @@ module _ (p : List ℕ → Bool) (way : List ℕ) (at ends longest : ℕ) (are :
           before = λ m low sequence. omega arith;
           sequence = ap (λ k. is_sequence p (take k way)) (is_at ∙ sym start) ∙ (are.sound 0 yes).1;
           within = omega (arith, is_at);
-          behind = omega (arith, is_at);
+          past = omega (arith, is_at);
         })
         (λ no. let is_longest : latest ≡ longest = cond-false (has_bit ends 0) at longest no in
         record {
@@ -117,7 +117,7 @@ module _ (p : List ℕ → Bool) (way : List ℕ) (at ends longest : ℕ) (are :
               (cases_lt m at);
           sequence = ap (λ k. is_sequence p (take k way)) is_longest ∙ are.sequence;
           within = omega (arith, is_longest, are.within);
-          behind = omega (arith, is_longest, are.behind);
+          past = omega (arith, is_longest, are.past);
         })
         (cases_Bool (has_bit ends 0))
 
@@ -144,7 +144,7 @@ module _ (p : List ℕ → Bool) (way : List ℕ) (at ends longest : ℕ) (are :
       let below : e.0 < m = e.1 in
       ⊎_elim
       (λ further. false≢true (sym (none_beyond none bound e.0 (omega arith) further (omega arith)) ∙ e.2))
-      (λ same. let start : e.0 ≡ at = omega (arith, are.behind) in
+      (λ same. let start : e.0 ≡ at = omega (arith, are.past) in
       false≢true (sym (no_bit 0) ∙ here (omega arith) (ap (λ k. is_sequence p (take k way)) (sym start) ∙ e.2)))
       (cases_lt longest e.0))
       (cases_lt e.0 at))

@@ -275,16 +275,16 @@ module _ (flags : List Bool) (line : List ℕ) (k c : ℕ) (rest : List ℕ) (wi
 
   pub repeat_from_rest : slice_index line k ≡ c → RestEnds → repeat_ends flags line (k + 1) (c ∷ rest) ≡ true
   unfolding repeat_ends
-  repeat_from_rest same stands =
+  repeat_from_rest same occurs =
       let j = k - length rest in
-      let fits : length rest ≤ k = stands.fits in
+      let fits : length rest ≤ k = occurs.fits in
       ends-from flags line (k + 1) (λ part. repeats (c ∷ rest) (reverse part)) (record {
         from = j;
         below = omega arith;
-        flagged = stands.flagged;
+        flagged = occurs.flagged;
         piece = repeats_more j (omega arith)
             ∙ and_from _ _ (eq-eqb (slice_index line k) c same)
-            (or_left (bytes_eq rest (reverse (slice_range line j k))) _ ((bytes_eq-Decides rest _).1 stands.text));
+            (or_left (bytes_eq rest (reverse (slice_range line j k))) _ ((bytes_eq-Decides rest _).1 occurs.text));
       })
 
   pub repeat_from_repeat : slice_index line k ≡ c → repeat_ends flags line k (c ∷ rest) ≡ true → repeat_ends flags line (k + 1) (c ∷ rest) ≡ true

@@ -39,8 +39,8 @@ module _ (rules : LineRules) (line rest : List ℕ) (n m : ℕ) (is_rest : rest 
   size = ap length is_rest ∙ length-drop n line
 
   -- seen from the end of the line
-  behind : (i : ℕ) → length line - m ≤ i → i < length line → get_or (reverse rest) (length line - 1 - i) 0 ≡ slice_index line i
-  behind i low high =
+  past : (i : ℕ) → length line - m ≤ i → i < length line → get_or (reverse rest) (length line - 1 - i) 0 ≡ slice_index line i
+  past i low high =
       let k = length line - 1 - i in
       let place : length rest - 1 - k ≡ i - n = omega (arith, size) in
       let whole : n + (i - n) ≡ i = omega (arith, size, end) in
@@ -53,5 +53,5 @@ module _ (rules : LineRules) (line rest : List ℕ) (n m : ℕ) (is_rest : rest 
     within = omega (arith, size, front, end);
     lead = white;
     no_item = refl;
-    tail = λ i low high. ap is_whitespace (sym (behind i low high)) ∙ white' (length line - 1 - i) (omega (arith, size, end));
+    tail = λ i low high. ap is_whitespace (sym (past i low high)) ∙ white' (length line - 1 - i) (omega (arith, size, end));
   })

@@ -16,7 +16,7 @@ use Rattle.lic_trim.proofs.PieceEnds.{length_part, slice_at, separator_parts}
 use Rattle.lic_trim.proofs.KindEnds.{space_parts, slice_one}
 use Rattle.lic_trim.proofs.SideEnds.{walked_piece}
 use Rattle.lic_trim.proofs.Stops.{any_some, any_from}
-use Rattle.lic_trim.proofs.SequenceLemmas.{sequence_ends, sequence_goes_on}
+use Rattle.lic_trim.proofs.SequenceLemmas.{sequence_ends, sequence_continues}
 use Rattle.lic_trim.proofs.TailSequences.{greatest_stays}
 use Rattle.lic_trim.proofs.TextLemmas.{same_truth}
 
@@ -32,16 +32,16 @@ eqb-sym a b = same_truth (a == b) (b == a) (λ h. eq-eqb b a (sym (eqb-true a b 
 
 -- ---- a text at the start of another
 
-stands_front : (t more : List ℕ) → begins_with_text (t ++ more) t ≡ true
-stands_front [] more = refl
-stands_front (c ∷ t) more = and_from (c == c) (begins_with_text (t ++ more) t) (eq-eqb c c refl) (stands_front t more)
+occurs_front : (t more : List ℕ) → begins_with_text (t ++ more) t ≡ true
+occurs_front [] more = refl
+occurs_front (c ∷ t) more = and_from (c == c) (begins_with_text (t ++ more) t) (eq-eqb c c refl) (occurs_front t more)
 
 -- a text with a character may occur where it does, and where it begins in white space
 may_stand_there : (way t more : List ℕ) → 0 < length t → (is_whitespace (get_or t 0 0) ≡ true) ⊎ (way ≡ t ++ more) → may_begin_with way t ≡ true
 may_stand_there way [] more some how = absurd (omega arith)
 may_stand_there way (c ∷ t) more some (inl white) = or_left (is_whitespace c) (begins_with_text way (c ∷ t)) white
 may_stand_there way (c ∷ t) more some (inr is) =
-    or_right (is_whitespace c) (begins_with_text way (c ∷ t)) (ap (λ l. begins_with_text l (c ∷ t)) is ∙ stands_front (c ∷ t) more)
+    or_right (is_whitespace c) (begins_with_text way (c ∷ t)) (ap (λ l. begins_with_text l (c ∷ t)) is ∙ occurs_front (c ∷ t) more)
 
 -- what is a text with its first character once or more ends in the text
 repeats_end : (t x : List ℕ) → repeats t x ≡ true → (0 < length t) × ((front : List ℕ) × (x ≡ front ++ t))
@@ -83,7 +83,7 @@ module _ (rules : LineRules) (side : Side) (line : List ℕ) (n : ℕ) (inside :
   is_space_sequence (suc m) le =
       let next : m + 1 ≡ suc m = omega arith in
       let one : slice_range line m (suc m) ≡ slice_index line m ∷ [] = ap (slice_range line m) (sym next) ∙ slice_one line m (omega arith) in
-      sequence_goes_on p line m (suc m) (omega arith) (is_space_sequence m (omega arith))
+      sequence_continues p line m (suc m) (omega arith) (is_space_sequence m (omega arith))
       (ap p one ∙ space_is_piece rules side (slice_index line m) (white m (omega arith)))
 
   no_texts : list_any (λ t. may_begin_with (drop n line) (walked side t)) (side_texts rules side) ≡ false
@@ -111,14 +111,14 @@ module _ (rules : LineRules) (side : Side) (line : List ℕ) (n : ℕ) (inside :
         let is = at 0 (omega arith) ∙ ap (slice_index line) start in
         ⊎_elim
         (λ before. inl (ap is_whitespace is ∙ white j before))
-        (λ behind. let same : j ≡ n = omega arith in inr (is ∙ ap (slice_index line) same))
+        (λ past. let same : j ≡ n = omega arith in inr (is ∙ ap (slice_index line) same))
         (cases_lt j n)
 
     -- no part that begins in the white space, or after it, begins with a text of the side
-    never_stands : (ts : List (List ℕ)) (k : ℕ) (more : List ℕ)
+    never_occurs : (ts : List (List ℕ)) (k : ℕ) (more : List ℕ)
         → list_any (λ t. may_begin_with (drop n line) (walked side t)) ts ≡ false → k < length ts
         → 0 < length (walked side (slice_index_or ts k [])) → x ≡ walked side (slice_index_or ts k []) ++ more → ⊥
-    never_stands ts k more none lt some is =
+    never_occurs ts k more none lt some is =
         let t = walked side (slice_index_or ts k []) in
         let begins : get_or x 0 0 ≡ get_or t 0 0 = ap (λ l. get_or l 0 0) is ∙ first_of t more some in
         false≢true (sym none ∙ any_from (λ u. may_begin_with (drop n line) (walked side u)) ts k [] lt
@@ -126,7 +126,7 @@ module _ (rules : LineRules) (side : Side) (line : List ℕ) (n : ℕ) (inside :
         (⊎_elim
         (λ before. let start : j + 0 ≡ j = omega arith in
         inl (ap is_whitespace (sym begins ∙ at 0 (omega arith) ∙ ap (slice_index line) start) ∙ white j before))
-        (λ behind.
+        (λ past.
         let same : n ≡ j = omega arith in
         inr (ap (λ i. drop i line) same ∙ sym (take-append-drop (m - j) (drop j line))
         ∙ ap (λ l. l ++ drop (m - j) (drop j line)) is ∙ append_assoc t more (drop (m - j) (drop j line))))
@@ -159,7 +159,7 @@ module _ (rules : LineRules) (side : Side) (line : List ℕ) (n : ℕ) (inside :
         let start : j + 0 ≡ j = omega arith in
         let light = ap is_whitespace (at 0 (omega (arith, size)) ∙ ap (slice_index line) start) ∙ white j before in
         false≢true (ap is_mark_kind (sym (kind_of-white (get_or x 0 0) light)) ∙ ap (λ d. is_mark_kind (kind_of d)) (each 0 (omega arith)) ∙ parts.2))
-        (λ behind.
+        (λ past.
         let here : j ≡ n = omega arith in
         let one : j + 1 ≡ n + 1 = omega arith in
         let two : j + 2 ≡ n + 2 = omega arith in
@@ -173,7 +173,7 @@ module _ (rules : LineRules) (side : Side) (line : List ℕ) (n : ℕ) (inside :
     no_text h =
         let found = any_some (λ t. bytes_eq (walked side t) x) (side_texts rules side) [] h in
         let same = (bytes_eq-Decides (walked side (slice_index_or (side_texts rules side) found.0 [])) x).0 found.2 in
-        never_stands (side_texts rules side) found.0 [] no_texts found.1 (omega (arith, ap length same, size))
+        never_occurs (side_texts rules side) found.0 [] no_texts found.1 (omega (arith, ap length same, size))
         (sym same ∙ sym (append-nil (walked side (slice_index_or (side_texts rules side) found.0 []))))
 
     -- a text and a white space character
@@ -194,14 +194,14 @@ module _ (rules : LineRules) (side : Side) (line : List ℕ) (n : ℕ) (inside :
         let found = any_some (λ t. ends_in is_whitespace (bytes_eq (walked side t)) x) (side_spaced rules side) [] h in
         let t = walked side (slice_index_or (side_spaced rules side) found.0 []) in
         let parts = spaced_parts t found.2 in
-        by t parts.0 parts.1 parts.2 (λ some. never_stands (side_spaced rules side) found.0 (parts.0 ∷ []) no_spaced found.1 some parts.2)
+        by t parts.0 parts.1 parts.2 (λ some. never_occurs (side_spaced rules side) found.0 (parts.0 ∷ []) no_spaced found.1 some parts.2)
       where
         by : (t : List ℕ) (w : ℕ) → is_whitespace w ≡ true → x ≡ t ++ w ∷ [] → (0 < length t → ⊥) → ⊥
         by [] w light same other = no_one (ap length same) (ap (λ l. is_whitespace (get_or l 0 0)) same ∙ light)
         by (d ∷ t) w light same other = other (omega arith)
 
     no_repeated_text : list_any (λ t. repeats t (reverse x)) (side_repeated rules side) ≡ true → ⊥
-    no_repeated_text h = by side (λ ts k more. never_stands ts k more) no_repeated h
+    no_repeated_text h = by side (λ ts k more. never_occurs ts k more) no_repeated h
       where
         by : (s : Side) → ((ts : List (List ℕ)) (k : ℕ) (more : List ℕ)
             → list_any (λ t. may_begin_with (drop n line) (walked s t)) ts ≡ false → k < length ts
@@ -259,7 +259,7 @@ module _ (rules : LineRules) (side : Side) (line : List ℕ) (white : (i : ℕ) 
   all_spaces (suc m) le =
       let next : m + 1 ≡ suc m = omega arith in
       let one : slice_range line m (suc m) ≡ slice_index line m ∷ [] = ap (slice_range line m) (sym next) ∙ slice_one line m (omega arith) in
-      sequence_goes_on piece line m (suc m) (omega arith) (all_spaces m (omega arith))
+      sequence_continues piece line m (suc m) (omega arith) (all_spaces m (omega arith))
       (ap piece one ∙ space_is_piece rules side (slice_index line m) (white m (omega arith)))
 
   pub longest_of_spaces : length line ≡ longest_front (is_sequence piece) line

@@ -13,7 +13,7 @@ use Rattle.lic_trim.specs.Walks.{Side, walked, is_walked_piece, side_texts, side
 use Rattle.lic_trim.proofs.PieceEnds.{length_part, slice_at, separator_parts}
 use Rattle.lic_trim.proofs.KindEnds.{space_parts}
 use Rattle.lic_trim.proofs.SideEnds.{walked_piece, repeats_more}
-use Rattle.lic_trim.proofs.SequenceLemmas.{sequence_ends, sequence_goes_on}
+use Rattle.lic_trim.proofs.SequenceLemmas.{sequence_ends, sequence_continues}
 use Rattle.lic_trim.proofs.Walking.{length-walked}
 
 pub any_some : {A : Type 0} (test : A → Bool) (xs : List A) (d : A) → list_any test xs ≡ true
@@ -52,8 +52,8 @@ module _ (rules : LineRules) (side : Side) (flags : List Bool) (line : List ℕ)
   -- a longer repetition is a piece one place before
   repeated_before : (m j : ℕ) (t : List ℕ) → end ≤ m + 1 → m + 1 ≤ length line → j ≤ longest → length t ≤ reach
       → repeats t (reverse (slice_range line j (m + 1))) ≡ true → repeats t (reverse (slice_range line j m)) ≡ true
-  repeated_before m j [] behind within low fits h = absurd (false≢true h)
-  repeated_before m j (c ∷ rest) behind within low fits h =
+  repeated_before m j [] past within low fits h = absurd (false≢true h)
+  repeated_before m j (c ∷ rest) past within low fits h =
       let part = reverse (slice_range line j m) in
       let long : length part ≡ m - j = length-reverse (slice_range line j m) ∙ length_part flags line m j (omega arith) in
       let more = and_parts (slice_index line m == c) (bytes_eq rest part || repeats (c ∷ rest) part)
@@ -66,7 +66,7 @@ module _ (rules : LineRules) (side : Side) (flags : List Bool) (line : List ℕ)
   -- a piece from a sequence to a place beyond can only be a repetition
   piece_before : (m j : ℕ) → end ≤ m + 1 → m + 1 ≤ length line → j ≤ longest → slice_index_or flags j false ≡ true
       → p (slice_range line j (m + 1)) ≡ true → p (slice_range line j m) ≡ true
-  piece_before m j behind within low flag h =
+  piece_before m j past within low flag h =
       let x = slice_range line j (m + 1) in
       let y = slice_range line j m in
       let size : length x ≡ m + 1 - j = length_part flags line (m + 1) j within in
@@ -106,7 +106,7 @@ module _ (rules : LineRules) (side : Side) (flags : List Bool) (line : List ℕ)
       walked_piece rules side y
       ∙ or_right ((is_space y || (rules.separators && is_separator y)) || list_any (λ u. bytes_eq (walked side u) y) (side_texts rules side)) _
       (or_right (list_any (λ u. ends_in is_whitespace (bytes_eq (walked side u)) y) (side_spaced rules side)) _
-      (any_from (λ u. repeats u (reverse y)) (side_repeated rules side) found.0 [] found.1 (repeated_before m j t behind within low fits found.2))))
+      (any_from (λ u. repeats u (reverse y)) (side_repeated rules side) found.0 [] found.1 (repeated_before m j t past within low fits found.2))))
       (or_cases spaced repeated last))
       (or_cases ((is_space x || marks) || texts) (spaced || repeated) (sym (walked_piece rules side x) ∙ h))
 
@@ -115,7 +115,7 @@ module _ (rules : LineRules) (side : Side) (flags : List Bool) (line : List ℕ)
   beyond (suc n) m le more within =
       ⊎_elim
       (λ before. above m more before)
-      (λ behind. ⊎_elim
+      (λ past. ⊎_elim
       (λ yes.
       let e = sequence_ends p line m (omega arith) within yes in
       let j = e.0 in
@@ -126,7 +126,7 @@ module _ (rules : LineRules) (side : Side) (flags : List Bool) (line : List ℕ)
       let last : m - 1 + 1 ≡ m = omega arith in
       let piece = piece_before (m - 1) j (omega arith) (omega arith) low (sequences.each j (omega arith) ∙ e.2)
       (subst (λ i. p (slice_range line j i) ≡ true) (sym last) e.3) in
-      absurd (false≢true (sym (beyond n (m - 1) (omega arith) (omega arith) (omega arith)) ∙ sequence_goes_on p line j (m - 1) (omega arith) e.2 piece)))
+      absurd (false≢true (sym (beyond n (m - 1) (omega arith) (omega arith) (omega arith)) ∙ sequence_continues p line j (m - 1) (omega arith) e.2 piece)))
       (λ none. none)
       (cases_Bool (is_sequence p (take m line))))
       (cases_lt m end)

@@ -29,8 +29,8 @@ module _ (flags : List Bool) (line : List ℕ) (k first : ℕ) (front : IsStreak
     least = λ j low high f. other j low f;
   }
 
-  pub front_behind : slice_index_or flags k false ≡ false → IsStreakFront flags line (k + 1) (k + 1)
-  front_behind none = record {
+  pub front_after : slice_index_or flags k false ≡ false → IsStreakFront flags line (k + 1) (k + 1)
+  front_after none = record {
     within = omega arith;
     same = λ i low high. absurd (omega arith);
     flagged = λ lt. absurd (omega arith);

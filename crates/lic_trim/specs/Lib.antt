@@ -6,3 +6,4 @@ pub mod PieceLengths
 pub mod Spaces
 pub mod Beginnings
 pub mod Leaps
+pub mod PlainEdges

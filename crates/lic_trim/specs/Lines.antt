@@ -108,14 +108,14 @@ item_length rules text =
 
 -- a line of a whole text
 abbrev pub whole_line : LinePart
-whole_line = record { has_front = true; has_end = true; behind = None }
+whole_line = record { has_front = true; has_end = true; past = None }
 
 abbrev pub lead_length : LineRules → LinePart → List ℕ → ℕ
 lead_length rules part text = if part.has_front then longest_front (is_sequence (is_lead_piece rules)) text else 0
 
 -- the item at the start of what the lead left
 abbrev pub item_after_lead : LineRules → LinePart → List ℕ → ℕ
-item_after_lead rules part rest = if part.has_front then item_length rules (rest ++ option_to_list part.behind) else 0
+item_after_lead rules part rest = if part.has_front then item_length rules (rest ++ option_to_list part.past) else 0
 
 -- the tail of what lead and item left
 abbrev pub tail_length : LineRules → LinePart → List ℕ → ℕ

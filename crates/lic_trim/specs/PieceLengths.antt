@@ -19,9 +19,9 @@ abbrev pub begins_with_spaced : ℕ → List ℕ → List ℕ → Bool
 begins_with_spaced n way text = begins_with_text way text && (is_whitespace (slice_index way (length text)) && (suc (length text) == n))
 
 -- whether this way begins with the text, met from its end on, and continues with its first character once more
-abbrev pub goes_on : List ℕ → List ℕ → Bool
-goes_on way [] = false
-goes_on way (c ∷ text) =
+abbrev pub continues : List ℕ → List ℕ → Bool
+continues way [] = false
+continues way (c ∷ text) =
     begins_with_text way (reverse (c ∷ text)) && (nat_lt (suc (length text)) (length way) && (slice_index way (suc (length text)) == c))
 
 -- bit n is set exactly if the way begins with a piece of n characters

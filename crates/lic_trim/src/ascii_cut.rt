@@ -185,7 +185,7 @@ fn has_no_item(line: &[u8]) -> bool
 }
 
 /// How long the longest sequence of pieces is that is at this side of a line: mostly it is white space alone, or a few texts
-/// and white space. The characters are room for those of the line, whatever they hold.
+/// and white space. The characters are a buffer for those of the line, whatever they hold.
 #[inline(always)]
 fn sequence_of_ascii(
     alloc: Global,
@@ -212,7 +212,7 @@ fn sequence_of_ascii(
 }
 
 /// How long the list item is at the start of a line, whose lead is taken already: mostly there is none. The characters are
-/// room for those of the line, whatever they hold.
+/// a buffer for those of the line, whatever they hold.
 #[inline(always)]
 fn item_of_ascii(
     rules: &Rules,
@@ -249,7 +249,7 @@ pub fn takes_spaces(rules: &Rules, line: &[u8]) -> bool
     true
 }
 
-/// What is taken from a whole line of ASCII. The characters are room for those of the line, whatever they hold.
+/// What is taken from a whole line of ASCII. The characters are a buffer for those of the line, whatever they hold.
 ///
 /// The error is that memory ran out.
 pub fn cut_of_ascii(

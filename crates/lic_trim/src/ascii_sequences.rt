@@ -6,13 +6,13 @@ ghost use Rattle.std.specs.List.{list_any};
 ghost use Rattle.lic_kind.specs.LineRules.{texts_of, rules_of};
 ghost use Rattle.lic_trim.specs.Beginnings.{HasBegun, HasBits};
 ghost use Rattle.lic_trim.specs.Leaps.{IsLongStreak, IsLeap};
-ghost use Rattle.lic_trim.specs.PieceLengths.{has_bit, begins_with_length, begins_with_separator, begins_with_spaced, goes_on, AreLengths};
+ghost use Rattle.lic_trim.specs.PieceLengths.{has_bit, begins_with_length, begins_with_separator, begins_with_spaced, continues, AreLengths};
 ghost use Rattle.lic_trim.specs.Texts.{is_sequence, longest_front};
 ghost use Rattle.lic_trim.specs.Walks.{walked, is_walked_piece, side_texts, side_repeated};
 ghost use Rattle.lic_trim.specs.Walks.{End};
 
 use crate::ascii_cut::{begun_at, byte_after, byte_at};
-use crate::ascii_texts::stands;
+use crate::ascii_texts::occurs;
 use crate::sequences::{is_mark, reach, side_spaced, side_texts};
 use crate::side::Side;
 use lic_kind::{RuleKind, Rules, Texts};
@@ -41,7 +41,7 @@ fn with_text(mask: u64, side: Side, text: &[char], line: &[u8], place: usize) ->
     ensures { IfSome result (λ new. (n : ℕ) → has_bit new n
         ≡ (has_bit mask n || begins_with_length n (drop place (walked side line.now)) (walked side text.now))) }
 {
-    if !stands(side, text, line, place) {
+    if !occurs(side, text, line, place) {
         return Some(mask);
     }
     if text.len() > LONGEST {
@@ -108,7 +108,7 @@ fn with_spaced(mask: u64, side: Side, text: &[char], line: &[u8], place: usize) 
     ensures { IfSome result (λ new. (n : ℕ) → has_bit new n
         ≡ (has_bit mask n || begins_with_spaced n (drop place (walked side line.now)) (walked side text.now))) }
 {
-    if !stands(side, text, line, place) {
+    if !occurs(side, text, line, place) {
         return Some(mask);
     }
     if text.len() > LONGEST {
@@ -136,14 +136,14 @@ fn spaced_lengths(side: Side, texts: &Texts, line: &[u8], place: usize) -> Optio
 
 /// Whether a text comes after this place on the way from a line's end, and its first character once more.
 #[inline(always)]
-fn goes_on(text: &[char], line: &[u8], place: usize) -> bool
+fn continues(text: &[char], line: &[u8], place: usize) -> bool
     requires { place ≤ length line.now }
-    ensures { result ≡ false → goes_on (drop place (walked End line.now)) text.now ≡ false }
+    ensures { result ≡ false → continues (drop place (walked End line.now)) text.now ≡ false }
 {
     if text.is_empty() {
         return false;
     }
-    if !stands(Side::End, text, line, place) {
+    if !occurs(Side::End, text, line, place) {
         return false;
     }
     if text.len() >= line.len() - place {
@@ -154,12 +154,12 @@ fn goes_on(text: &[char], line: &[u8], place: usize) -> bool
 
 /// Whether one of these texts does.
 #[inline(always)]
-fn any_goes_on(texts: &Texts, line: &[u8], place: usize) -> bool
+fn any_continues(texts: &Texts, line: &[u8], place: usize) -> bool
     requires { place ≤ length line.now }
-    ensures { result ≡ false → list_any (goes_on (drop place (walked End line.now))) (texts_of texts.now) ≡ false }
+    ensures { result ≡ false → list_any (continues (drop place (walked End line.now))) (texts_of texts.now) ≡ false }
 {
     for i in 0..texts.len() {
-        if goes_on(texts.characters(i), line, place) {
+        if continues(texts.characters(i), line, place) {
             return true;
         }
     }
@@ -182,14 +182,14 @@ fn repeated_lengths(rules: &Rules, side: Side, line: &[u8], place: usize) -> Opt
     ensures mask { IfSome result (λ mask. (n : ℕ) → has_bit mask n
         ≡ list_any (λ t. begins_with_length n (drop place (walked side line.now)) (reverse t))
         (side_repeated (rules_of rules.now) side)) }
-    ensures once { IfSome result (λ _. list_any (goes_on (drop place (walked side line.now)))
+    ensures once { IfSome result (λ _. list_any (continues (drop place (walked side line.now)))
         (side_repeated (rules_of rules.now) side) ≡ false) }
 {
     match side {
         Side::Front => Some(0),
         Side::End => {
             let texts = rules.texts(RuleKind::TailRepeat);
-            if any_goes_on(texts, line, place) {
+            if any_continues(texts, line, place) {
                 return None;
             }
             let count = texts.len();

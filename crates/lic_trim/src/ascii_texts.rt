@@ -19,7 +19,7 @@ fn text_at(text: &[char], side: Side, place: usize) -> char
 
 /// Whether the line has a text from this place on, seen from this side.
 #[inline(always)]
-pub(crate) fn stands(side: Side, text: &[char], line: &[u8], place: usize) -> bool
+pub(crate) fn occurs(side: Side, text: &[char], line: &[u8], place: usize) -> bool
     requires { place ≤ length line.now }
     ensures { result ≡ begins_with_text (drop place (walked side line.now)) (walked side text.now) }
 {

@@ -37,7 +37,7 @@ pub fn cut_line(
     };
     let rest = &line[lead..];
     let item = if part.has_front {
-        item_length(rules, rest, part.behind)
+        item_length(rules, rest, part.past)
     } else {
         0
     };

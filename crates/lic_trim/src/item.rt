@@ -167,35 +167,35 @@ fn first_space(text: &[SourceChar]) -> usize
 }
 
 /// The first character that is not white space, of these and what counts as following them.
-fn next_dark(text: &[SourceChar], behind: Option<char>) -> Option<char>
+fn next_dark(text: &[SourceChar], past: Option<char>) -> Option<char>
     ensures { result ≡ find (λ c. not (is_whitespace c))
-        (chars_of text.now ++ option_to_list behind) }
+        (chars_of text.now ++ option_to_list past) }
 {
     for s in text {
         if !s.char.is_whitespace() {
             return Some(s.char);
         }
     }
-    match behind {
+    match past {
         Some(c) if !c.is_whitespace() => Some(c),
         _ => None,
     }
 }
 
 /// Whether what follows an item form and a white space character lets it be an item.
-fn lets_item(form: &[SourceChar], text: &[SourceChar], behind: Option<char>) -> bool
+fn lets_item(form: &[SourceChar], text: &[SourceChar], past: Option<char>) -> bool
     ensures { result ≡ option_map_or (λ d.
         not (is_copyright_sign (chars_of form.now) && is_ascii_digit d))
-        (find (λ c. not (is_whitespace c)) (chars_of text.now ++ option_to_list behind)) false }
+        (find (λ c. not (is_whitespace c)) (chars_of text.now ++ option_to_list past)) false }
 {
-    match next_dark(text, behind) {
+    match next_dark(text, past) {
         None => false,
         Some(c) => !(c.is_ascii_digit() && is_copyright_sign(form)),
     }
 }
 
 /// Whether a list item may begin with this character.
-fn may_begin_item(c: char) -> bool
+pub(crate) fn may_begin_item(c: char) -> bool
     ensures { result ≡ (is_ascii c || is_dash c || is_bullet c) }
 {
     c.is_ascii() || is_dash(c) || is_bullet(c)
@@ -203,16 +203,16 @@ fn may_begin_item(c: char) -> bool
 
 /// Whether a line begins with no list item, as far as its first character shows.
 fn begins_as_no_item(line: &[SourceChar]) -> bool
-    ensures { IsTrue result → (rules : LineRules) (behind : List ℕ)
-        → item_length rules (chars_of line.now ++ behind) ≡ 0 }
+    ensures { IsTrue result → (rules : LineRules) (past : List ℕ)
+        → item_length rules (chars_of line.now ++ past) ≡ 0 }
 {
     !line.is_empty() && !may_begin_item(line[0].char)
 }
 
 /// How long the item at the start of a line is, whose lead is taken already, or 0.
-pub fn item_length(rules: &Rules, line: &[SourceChar], behind: Option<char>) -> usize
+pub fn item_length(rules: &Rules, line: &[SourceChar], past: Option<char>) -> usize
     ensures item { result ≡ item_length (rules_of rules.now)
-        (chars_of line.now ++ option_to_list behind) }
+        (chars_of line.now ++ option_to_list past) }
     ensures within { result ≤ length line.now }
 {
     if !rules.items() {
@@ -226,7 +226,7 @@ pub fn item_length(rules: &Rules, line: &[SourceChar], behind: Option<char>) -> 
         return 0;
     }
     let form = &line[..end];
-    if is_item_form(form) && lets_item(form, &line[end + 1..], behind) {
+    if is_item_form(form) && lets_item(form, &line[end + 1..], past) {
         end
     } else {
         0

@@ -8,5 +8,5 @@ pub struct LinePart {
     /// Whether the part has the line's end, so that it can lose a tail.
     pub has_end: bool,
     /// What counts as following the part, for the item rule alone.
-    pub behind: Option<char>,
+    pub past: Option<char>,
 }

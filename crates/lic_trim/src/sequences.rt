@@ -128,8 +128,8 @@ fn streak_front(flags: &[bool], line: &[SourceChar], side: Side, k: usize, first
     requires front { IsStreakFront flags.now (walked side (chars_of line.now)) k first }
     ensures { IsStreakFront flags.now (walked side (chars_of line.now)) (k + 1) result }
 {
-    let goes_on = k > first && char_at(line, side, k) == char_at(line, side, k - 1);
-    if goes_on {
+    let continues = k > first && char_at(line, side, k) == char_at(line, side, k - 1);
+    if continues {
         first
     } else if flags[k] {
         k
@@ -163,7 +163,7 @@ pub(crate) fn side_spaced(rules: &Rules, side: Side) -> &Texts
 fn repeat_ends(text: &[char], before: bool, flags: &[bool], line: &[SourceChar], k: usize) -> bool
     requires flagged { k < length flags.now }
     requires within { k < length line.now }
-    requires told { before ≡ repeat_ends flags.now (reverse (chars_of line.now)) k text.now }
+    requires noted { before ≡ repeat_ends flags.now (reverse (chars_of line.now)) k text.now }
     ensures { result ≡ repeat_ends flags.now (reverse (chars_of line.now)) (k + 1) text.now }
 {
     if text.is_empty() || char_at(line, Side::End, k) != text[0] {
@@ -181,7 +181,7 @@ fn repeat_ends(text: &[char], before: bool, flags: &[bool], line: &[SourceChar],
 fn step_texts(texts: &Texts, repeating: &mut [bool], flags: &[bool], line: &[SourceChar], k: usize)
     requires flagged { k < length flags.now }
     requires within { k < length line.now }
-    requires told { repeating.old
+    requires noted { repeating.old
         ≡ map (repeat_ends flags.now (reverse (chars_of line.now)) k) (texts_of texts.now) }
     ensures { repeating.new ≡ map (repeat_ends flags.now (reverse (chars_of line.now)) (k + 1))
         (texts_of texts.now) }
@@ -203,7 +203,7 @@ fn step_repeats(
 )
     requires flagged { k < length flags.now }
     requires within { k < length line.now }
-    requires told { repeating.old
+    requires noted { repeating.old
         ≡ map (repeat_ends flags.now (walked side (chars_of line.now)) k)
         (side_repeated (rules_of rules.now) side) }
     ensures { repeating.new ≡ map (repeat_ends flags.now (walked side (chars_of line.now)) (k + 1))
@@ -270,7 +270,7 @@ fn piece_ends(
     requires within { end ≤ length line.now }
     requires some { 0 < end }
     requires front { IsStreakFront flags.now (walked side (chars_of line.now)) end first }
-    requires told { repeated
+    requires noted { repeated
         ≡ list_any (repeat_ends flags.now (walked side (chars_of line.now)) end)
         (side_repeated (rules_of rules.now) side) }
     ensures { result ≡ ends_piece (is_walked_piece (rules_of rules.now) side) flags.now

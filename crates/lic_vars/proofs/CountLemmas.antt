@@ -75,7 +75,7 @@ module _ (tokens : List TokenValue) (are : AreTexts tokens) where
   hop-count p b c at =
       let place = letter_place tokens (cut_at p b) in
       let front = before-letter p b c at in
-      let letter : letters_between bytes place (behind tokens are p b c) ≡ 1 = ap (count_by begins_letter) at.stands.1 ∙ count-letter c at.other in
+      let letter : letters_between bytes place (behind tokens are p b c) ≡ 1 = ap (count_by begins_letter) at.occurs.1 ∙ count-letter c at.other in
       omega (arith, between-split bytes p place (behind tokens are p b c) front.1 (omega arith), front.0, letter)
 
   pub hops-count : (p n q : ℕ) → Hops tokens are p n q → letters_between bytes p q ≡ n

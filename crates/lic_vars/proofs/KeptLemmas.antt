@@ -25,12 +25,6 @@ IsSet-read sets k x v within is some = record { within = within; is = λ d. get_
 pub There-read : (sets : List (Option Spans)) (k : ℕ) (x : Option Spans) (v : Spans) → k < length sets → x ≡ get_or sets k x → x ≡ Some v → IsThere sets k
 There-read sets k x v within is some = record { set = v; is = IsSet-read sets k x v within is some }
 
-pub set-read : (sets : List (Option Spans)) (k : ℕ) (x : Option Spans) (v w : Spans) → x ≡ get_or sets k x → x ≡ Some v → IsSet sets k w → v ≡ w
-set-read sets k x v w is some there = let same : x ≡ Some w = is ∙ there.is x in cc
-
-pub absent-read : (sets : List (Option Spans)) (k : ℕ) (x : Option Spans) → x ≡ get_or sets k x → x ≡ None → IsThere sets k → ⊥
-absent-read sets k x is none there = let same : x ≡ Some there.set = is ∙ there.is.is x in cc
-
 -- ---- a set is put in its place, or let go
 
 IsSet-set_back : (sets : List (Option Spans)) (k j : ℕ) (x : Option Spans) (v : Spans) → j < length sets → IsSet (set sets j x) k v → ((k ≡ j) × (x ≡ Some v)) ⊎ IsSet sets k v
@@ -152,23 +146,6 @@ module _ (tokens : List TokenValue) (steps : List Step) where
       }
 
 -- ---- the set that a step leads to when it is left out
-
-optional-step : (step : Step) (size : ℕ) (ms ns : List Move) → move_of step ∷ ms ≡ optional size ∷ ns → step ≡ Step.Optional size
-optional-step (Step.Text letters) size ms ns e = let none : ⊥ = cc in absurd none
-optional-step (Step.Variable name ere is_empty) size ms ns e = let none : ⊥ = cc in absurd none
-optional-step (Step.Optional n) size ms ns e = let same : n ≡ size = cc in ap Step.Optional same
-
-pub IsOther-step : (steps : List Step) (n other : ℕ) (step : Step) → 0 < n → n ≤ length steps → step ≡ get_or steps (length steps - n) step → (o : IsOther steps n other)
-    → step ≡ Step.Optional o.size
-IsOther-step steps n other step some within is o =
-    optional-step step o.size (last_moves steps (n - 1)) o.moves (sym (step-moves steps n step some within is) ∙ o.step)
-
-pub IsOther-size : (steps : List Step) (n size other : ℕ) (step : Step) → 0 < n → n ≤ length steps → step ≡ get_or steps (length steps - n) step → step ≡ Step.Optional size
-    → IsOther steps n other → other ≡ n - 1 - size
-IsOther-size steps n size other step some within is same o =
-    let there = IsOther-step steps n other step some within is o in
-    let sizes : o.size ≡ size = cc in
-    omega (arith, sizes, o.is)
 
 pub IsOther-here : (steps : List Step) (n size : ℕ) (step : Step) → 0 < n → n ≤ length steps → step ≡ get_or steps (length steps - n) step → step ≡ Step.Optional size
     → IsOther steps n (n - 1 - size)

@@ -49,9 +49,6 @@ module _ (all : List Part) (i : ℕ) (p : Part) (h : i < length all) (e : p ≡ 
       ≡ optional (length (moves (sequence (map part_of body.items)))) ∷ (moves (sequence (map part_of body.items)) ++ moves (sequence (map part_of (drop (i + 1) all))))
   more-Optional body q = ap moves (sequence_more (parts.optional (sequence (map part_of body.items))) (ap part_of q ∙ part_of_Optional body))
 
-pub moves-done : (all : List Part) (i : ℕ) → length all ≤ i → moves (sequence (map part_of (drop i all))) ≡ []
-moves-done all i h = ap (λ (s : List Part). moves (sequence (map part_of s))) (drop_all i all h)
-
 pub pushed : (a b : List Step) (x : Step) (m : Move) (rest whole : List Move) → b ≡ a ++ x ∷ [] → move_of x ≡ m → whole ≡ m ∷ rest →
     moves_of b ++ rest ≡ moves_of a ++ whole
 pushed a b x m rest whole e f g =

@@ -30,11 +30,6 @@ last-none steps =
     let all : length steps - 0 ≡ length steps = omega arith in
     ap (λ n. moves_of (drop n steps)) all ∙ ap moves_of (drop-length steps)
 
-pub last-all : (steps : List Step) (k : ℕ) → k ≡ length steps → last_moves steps k ≡ moves_of steps
-last-all steps k all =
-    let none : length steps - k ≡ 0 = omega (arith, all) in
-    ap (λ n. moves_of (drop n steps)) none
-
 pub last-more : (steps : List Step) (k i : ℕ) (d : Step) → suc k ≤ length steps → i ≡ length steps - suc k → last_moves steps (suc k) ≡ move_of (get_or steps i d) ∷ last_moves steps k
 last-more steps k i d within is =
     let next : suc i ≡ length steps - k = omega (arith, is) in

@@ -207,9 +207,9 @@ module _ (tokens : List TokenValue) (are : AreTexts tokens) where
           by : EndCases m → ⊥
           by (inl e) = omega (arith, e.2, after, more, same.0, before, e.0)
           by (inr e) =
-              let behind_it : begin < m = omega (arith, e.0, after) in
+              let after_it : begin < m = omega (arith, e.0, after) in
               let at : m - 1 ≡ q = omega (arith, e.0, after, more, same.0, before) in
-              true≢false (sym same.1 ∙ ap (is_blank_at (spelling_of tokens)) (sym at) ∙ e.1 behind_it)
+              true≢false (sym same.1 ∙ ap (is_blank_at (spelling_of tokens)) (sym at) ∙ e.1 after_it)
 
       -- a place after a letter with such a number is that of the least number or comes after it
       not_before : begin < end_of m → (n q : ℕ) → m ≤ n → (n ≡ q) ⊎ ((n ≡ suc q) × (is_blank_at (spelling_of tokens) q ≡ true)) → end_of m ≤ q
@@ -224,9 +224,9 @@ module _ (tokens : List TokenValue) (are : AreTexts tokens) where
           by e (inr le) = le
           by (inl e) (inl less) = absurd (omega (arith, e.2, more, same.0, less, e.0))
           by (inr e) (inl less) =
-              let behind_it : begin < m = omega (arith, e.0, after) in
+              let after_it : begin < m = omega (arith, e.0, after) in
               let at : m - 1 ≡ q = omega (arith, e.0, more, same.0, less) in
-              absurd (true≢false (sym same.1 ∙ ap (is_blank_at (spelling_of tokens)) (sym at) ∙ e.1 behind_it))
+              absurd (true≢false (sym same.1 ∙ ap (is_blank_at (spelling_of tokens)) (sym at) ∙ e.1 after_it))
 
       -- nor does it come after it, at the least number
       not_after : (n q : ℕ) → n ≡ m → ¬ (IsAfterBlank (spelling_of tokens) q) → begin < q → (n ≡ q) ⊎ ((n ≡ suc q) × (is_blank_at (spelling_of tokens) q ≡ true)) → q ≡ end_of m

@@ -142,10 +142,6 @@ module _ (tokens : List TokenValue) (are : AreTexts tokens) where
               (least-same ms (ReadsOn tokens next) (λ w. ReadsOn tokens cut (short.word ++ w)) r (λ w. ((short.leads w).1, (short.leads w).0)) h))));
         }
 
-pub walk-begins : (tokens : List TokenValue) (all : List Move) (letters : List Span) → CanMake all (ReadsOn tokens start)
-    → IsWalk tokens all all letters [] start letters
-walk-begins tokens all letters can = record { can = can; least = λ r h. record { numbers = r; least = h; same = refl } }
-
 pub walk-ends : (tokens : List TokenValue) (all : List Move) (letters : List Span) (values : List Assigned) (cut : Cut) (after : List Span)
     → IsWalk tokens all [] letters values cut after → AreOfLeast tokens all letters values
 walk-ends tokens all letters values cut after is =

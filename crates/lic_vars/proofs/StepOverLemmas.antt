@@ -11,9 +11,9 @@ use Rattle.lic_places.specs.Places.{AreTexts, IsAfterBlank, OverBlank, Occurs, i
 use Rattle.lic_places.specs.Places.OverBlank.{over, stays}
 use Rattle.lic_places.specs.Reads.{Reads, Takes}
 use Rattle.lic_places.proofs.TokenPlaces.{blank-alone, OverBlank-twice, OverBlank-order}
-use Rattle.lic_places.proofs.TiePlaces.{length-letter, not_at, not_behind}
+use Rattle.lic_places.proofs.TiePlaces.{length-letter, not_at, not_after}
 use Rattle.lic_places.proofs.Reading.{Reads-order}
-use Rattle.lic_view.proofs.CountReads.{stands-follows}
+use Rattle.lic_view.proofs.CountReads.{occurs-follows}
 use Rattle.lic_vars.specs.Cuts.{IsOpen, LeadsTo, ReadsFrom, ReadsOn, lead, letter_place}
 use Rattle.lic_vars.specs.declared.cut.Cut.{Cut}
 
@@ -55,16 +55,16 @@ module _ (tokens : List TokenValue) (are : AreTexts tokens) where
     pub other : ¬ (c ≡ blank)
     pub scalar : IsScalar c
     pub leads : b ≡ true → OverBlank tokens p (letter_place tokens (cut_at p b))
-    pub stands : Occurs (spelling_of tokens) (letter_place tokens (cut_at p b)) (encode_utf8 c)
+    pub occurs : Occurs (spelling_of tokens) (letter_place tokens (cut_at p b)) (encode_utf8 c)
         (letter_place tokens (cut_at p b) + length (encode_utf8 c))
 
   abbrev pub behind : ℕ → Bool → ℕ → ℕ
   behind p b c = letter_place tokens (cut_at p b) + length (encode_utf8 c)
 
   no_blank : (p c q : ℕ) → ¬ (c ≡ blank) → Occurs (spelling_of tokens) p (encode_utf8 c) q → is_blank_at (spelling_of tokens) p ≡ false
-  no_blank p c q other stands =
+  no_blank p c q other occurs =
       elim (cases_Bool (is_blank_at (spelling_of tokens) p)) [
-        | inl is ↦ absurd (not_at (spelling_of tokens) (drop q (spelling_of tokens)) p c other (stands-follows (spelling_of tokens) p (encode_utf8 c) q stands) is)
+        | inl is ↦ absurd (not_at (spelling_of tokens) (drop q (spelling_of tokens)) p c other (occurs-follows (spelling_of tokens) p (encode_utf8 c) q occurs) is)
         | inr is ↦ is
       ]
 
@@ -88,7 +88,7 @@ module _ (tokens : List TokenValue) (are : AreTexts tokens) where
           other = other;
           scalar = at.0;
           leads = λ _. subst (OverBlank tokens p) (sym here) (over is);
-          stands = subst (λ x. Occurs (spelling_of tokens) x (encode_utf8 c) (x + length (encode_utf8 c))) (sym here)
+          occurs = subst (λ x. Occurs (spelling_of tokens) x (encode_utf8 c) (x + length (encode_utf8 c))) (sym here)
               (subst (Occurs (spelling_of tokens) (suc p) (encode_utf8 c)) end at.1);
         },
         subst (λ x. Reads tokens x w e) (end ∙ ap (λ x. x + length (encode_utf8 c)) (sym here)) reads,
@@ -101,7 +101,7 @@ module _ (tokens : List TokenValue) (are : AreTexts tokens) where
           other = other;
           scalar = at.0;
           leads = λ _. subst (OverBlank tokens p) (sym here) (stays free gap);
-          stands = subst (λ x. Occurs (spelling_of tokens) x (encode_utf8 c) (x + length (encode_utf8 c))) (sym here)
+          occurs = subst (λ x. Occurs (spelling_of tokens) x (encode_utf8 c) (x + length (encode_utf8 c))) (sym here)
               (subst (Occurs (spelling_of tokens) p (encode_utf8 c)) end at.1);
         },
         subst (λ x. Reads tokens x w e) (end ∙ ap (λ x. x + length (encode_utf8 c)) (sym here)) reads,
@@ -114,14 +114,14 @@ module _ (tokens : List TokenValue) (are : AreTexts tokens) where
   letter-read p false c w e other reads =
       let at = letter-stays p c reads.0 w other reads.1 in
       let end : reads.0 ≡ p + length (encode_utf8 c) = at.1.0 in (
-        record { other = other; scalar = at.0; leads = λ is. absurd (true≢false (sym is)); stands = subst (Occurs (spelling_of tokens) p (encode_utf8 c)) end at.1 },
+        record { other = other; scalar = at.0; leads = λ is. absurd (true≢false (sym is)); occurs = subst (Occurs (spelling_of tokens) p (encode_utf8 c)) end at.1 },
         subst (λ x. Reads tokens x w e) end reads.2,
       )
 
   pub read-letter : (p : ℕ) (b : Bool) (c : ℕ) (w : Word) (e : ℕ) → LetterAt p b c → Reads tokens (behind p b c) w e → Reads tokens p (lead b (c ∷ w)) e
   read-letter p true c w e at reads =
-      (letter_place tokens (cut_at p true), inl (refl, at.leads refl), (behind p true c, inr (at.other, at.scalar, at.stands), reads))
-  read-letter p false c w e at reads = (behind p false c, inr (at.other, at.scalar, at.stands), reads)
+      (letter_place tokens (cut_at p true), inl (refl, at.leads refl), (behind p true c, inr (at.other, at.scalar, at.occurs), reads))
+  read-letter p false c w e at reads = (behind p false c, inr (at.other, at.scalar, at.occurs), reads)
 
   -- ---- letters one after another
 
@@ -133,15 +133,15 @@ module _ (tokens : List TokenValue) (are : AreTexts tokens) where
   place-same : (p : ℕ) (b d : Bool) (c f : ℕ) → LetterAt p b c → LetterAt p d f → letter_place tokens (cut_at p b) ≡ letter_place tokens (cut_at p d)
   place-same p true true c f one two = refl
   place-same p false false c f one two = refl
-  place-same p true false c f one two = place-stays p (no_blank p f (behind p false f) two.other two.stands)
-  place-same p false true c f one two = sym (place-stays p (no_blank p c (behind p false c) one.other one.stands))
+  place-same p true false c f one two = place-stays p (no_blank p f (behind p false f) two.other two.occurs)
+  place-same p false true c f one two = sym (place-stays p (no_blank p c (behind p false c) one.other one.occurs))
 
   hop-same : (p : ℕ) (b d : Bool) (c f : ℕ) → LetterAt p b c → LetterAt p d f → behind p b c ≡ behind p d f
   hop-same p b d c f one two =
       let bytes = spelling_of tokens in
       let here = place-same p b d c f one two in
-      let follows = stands-follows bytes (letter_place tokens (cut_at p b)) (encode_utf8 c) (behind p b c) one.stands in
-      let others = stands-follows bytes (letter_place tokens (cut_at p d)) (encode_utf8 f) (behind p d f) two.stands in
+      let follows = occurs-follows bytes (letter_place tokens (cut_at p b)) (encode_utf8 c) (behind p b c) one.occurs in
+      let others = occurs-follows bytes (letter_place tokens (cut_at p d)) (encode_utf8 f) (behind p d f) two.occurs in
       let same = encode_same c f (drop (behind p b c) bytes) (drop (behind p d f) bytes)
       (sym follows ∙ ap (λ x. drop x bytes) here ∙ others) in
       ap₂ (λ x y. x + length (encode_utf8 y)) here same.0
@@ -170,8 +170,8 @@ module _ (tokens : List TokenValue) (are : AreTexts tokens) where
   pub hops-solid : (p n q : ℕ) → Hops p (suc n) q → IsAfterBlank (spelling_of tokens) q → ⊥
   hops-solid p zero q (b, c, at, same) blank_before =
       let bytes = spelling_of tokens in
-      not_behind bytes (drop (behind p b c) bytes) (letter_place tokens (cut_at p b)) c at.other
-      (stands-follows bytes (letter_place tokens (cut_at p b)) (encode_utf8 c) (behind p b c) at.stands)
+      not_after bytes (drop (behind p b c) bytes) (letter_place tokens (cut_at p b)) c at.other
+      (occurs-follows bytes (letter_place tokens (cut_at p b)) (encode_utf8 c) (behind p b c) at.occurs)
       (subst (IsAfterBlank bytes) (sym same) blank_before)
   hops-solid p (suc n) q (b, c, at, later) blank_before = hops-solid (behind p b c) n q later blank_before
 

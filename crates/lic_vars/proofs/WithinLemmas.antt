@@ -108,9 +108,6 @@ none-more spans i d low first next below before less here =
       ];
     })
 
-pub none-all : (spans : List PlaceSpan) (i low first : ℕ) → length spans ≤ i → HaveNone (take i spans) low first → HaveNone spans low first
-none-all spans i low first all before = subst (λ x. HaveNone x low first) (take_all i spans all) before
-
 pub within-placed : (tokens : List TokenValue) (spans found : List PlaceSpan) (low high : ℕ) → ArePlaced tokens spans → AreWithin spans low high found → ArePlaced tokens found
 within-placed tokens spans found low high placed within = record {
   ordered = within.ordered;

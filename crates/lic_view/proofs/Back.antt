@@ -187,22 +187,22 @@ Holds-last tokens xs kind number last placed holds =
 -- of two last tokens with a place of one kind the lesser one is as good, if not each is kept
 beats-kind : (keep : Keep) (tokens : List TokenValue) (kind : SpanKind) (number p other last : ℕ) → AreTexts tokens → other < length tokens → last < length tokens → other ≤ last →
     (IsEach keep → other ≡ last) → LiesBefore tokens kind number other → LiesBefore tokens kind number last → IsPlaceOf tokens kind number p → Beats keep tokens p other last
-beats-kind keep tokens End number p other last texts one two least each front behind is = record {
+beats-kind keep tokens End number p other last texts one two least each front past is = record {
   least = least;
-  taken = λ at. place_end-one tokens other last texts one two least (sym front ∙ behind);
+  taken = λ at. place_end-one tokens other last texts one two least (sym front ∙ past);
   each = each;
 }
-beats-kind keep tokens Place number p other last texts one two least each front behind is = record {
+beats-kind keep tokens Place number p other last texts one two least each front past is = record {
   least = least;
   taken = λ at. absurd (omega (arith, front.0, is, at));
   each = each;
 }
-beats-kind keep tokens Letters number p other last texts one two least each front behind is = record {
+beats-kind keep tokens Letters number p other last texts one two least each front past is = record {
   least = least;
   taken = λ at. absurd (omega (arith, front, is.0, at));
   each = each;
 }
-beats-kind keep tokens Blanks number p other last texts one two least each front behind is = record {
+beats-kind keep tokens Blanks number p other last texts one two least each front past is = record {
   least = least;
   taken = λ at. let forward = OverBlank-order tokens p number is.1 in absurd (omega (arith, front, at, forward));
   each = each;

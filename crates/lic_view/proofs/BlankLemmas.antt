@@ -13,7 +13,7 @@ use Rattle.lic_spans.specs.declared.span.SpanKind.TheVariants.{End, Letters, Bla
 use Rattle.lic_spans.specs.declared.span.PlaceSpan.{PlaceSpan}
 use Rattle.lic_view.specs.PlaceSets.{ArePlaced, IsPlaceOf, LiesBefore, Reaches}
 use Rattle.lic_view.specs.Backward.{Beats, IsBack}
-use Rattle.lic_view.proofs.PlaceLaws.{blank-one, blank-twice, blanks-apart, end-not_behind}
+use Rattle.lic_view.proofs.PlaceLaws.{blank-one, blank-twice, blanks-apart, end-not_after}
 use Rattle.lic_view.proofs.Back.{Beats-same}
 use Rattle.lic_view.specs.declared.sets.keep.Keep.{Keep}
 
@@ -112,15 +112,15 @@ blank-at_end tokens last p texts within = (
 )
   where
     here : OverBlank tokens (place_end tokens last) (place_end tokens last)
-    here = stays (end-not_behind tokens last texts within) (inr (inr (record { number = last; within = within; ends = refl })))
+    here = stays (end-not_after tokens last texts within) (inr (inr (record { number = last; within = within; ends = refl })))
 
 -- a second blank leads nowhere else
 pub blank-again : (tokens : List TokenValue) (p q : ℕ) → AreTexts tokens → OverBlank tokens p q → OverBlank tokens p p
-blank-again tokens p _ texts (over is) = stays (λ behind. apart behind) (inr (inl is))
+blank-again tokens p _ texts (over is) = stays (λ past. apart past) (inr (inl is))
   where
     apart : IsAfterBlank (spelling_of tokens) p → ⊥
-    apart behind = let no = blanks-apart tokens behind.0 texts behind.2 in
-        let same : is_blank_at (spelling_of tokens) p ≡ false = subst (λ x. is_blank_at (spelling_of tokens) x ≡ false) (sym behind.1) no in cc
+    apart past = let no = blanks-apart tokens past.0 texts past.2 in
+        let same : is_blank_at (spelling_of tokens) p ≡ false = subst (λ x. is_blank_at (spelling_of tokens) x ≡ false) (sym past.1) no in cc
 blank-again tokens p _ texts (stays not gap) = stays not gap
 
 -- of what nothing was taken, and of what is before a blank, the places stay

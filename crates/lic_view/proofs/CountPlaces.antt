@@ -14,7 +14,7 @@ use Rattle.lic_spans.specs.declared.span.SpanKind.{SpanKind}
 use Rattle.lic_spans.specs.declared.span.SpanKind.TheVariants.{End, Place, Letters, Blanks}
 use Rattle.lic_spans.specs.declared.span.PlaceSpan.{PlaceSpan}
 use Rattle.lic_view.specs.PlaceSets.{ArePlaced, IsLetterPlace, IsPlaceOf, LiesBefore}
-use Rattle.lic_view.proofs.CountReads.{follows-byte, stands-follows}
+use Rattle.lic_view.proofs.CountReads.{follows-byte, occurs-follows}
 use Rattle.lic_view.proofs.ViewSpans.{Holds-one, last-one}
 
 -- ---- the ends of tokens
@@ -24,19 +24,19 @@ text_utf8 tokens i texts h =
     All-get_or IsUtf8 (texts_of tokens) i [] (omega (arith, length-map tokens (λ t. t.text)))
     (All-map IsUtf8 (λ t. t.text) tokens texts.utf8)
 
-stands_within : (bytes : List ℕ) (p : ℕ) (text : List ℕ) (q : ℕ) → Occurs bytes p text q → p < q → q ≤ length bytes
-stands_within bytes p text q stands before =
-    let end : q ≡ p + length text = stands.0 in
-    omega (arith, length-drop p bytes, ap length (stands-follows bytes p text q stands), length-append text (drop q bytes))
+occurs_within : (bytes : List ℕ) (p : ℕ) (text : List ℕ) (q : ℕ) → Occurs bytes p text q → p < q → q ≤ length bytes
+occurs_within bytes p text q occurs before =
+    let end : q ≡ p + length text = occurs.0 in
+    omega (arith, length-drop p bytes, ap length (occurs-follows bytes p text q occurs), length-append text (drop q bytes))
 
 -- no character is cut where a text begins
 text_whole : (bytes : List ℕ) (p : ℕ) (text : List ℕ) (q : ℕ) → IsUtf8 text → Occurs bytes p text q → p < q → IsCharBoundary bytes p
-text_whole bytes p text q utf8 stands before =
-    let inside = stands_within bytes p text q stands before in
-    let end : q ≡ p + length text = stands.0 in
+text_whole bytes p text q utf8 occurs before =
+    let inside = occurs_within bytes p text q occurs before in
+    let end : q ≡ p + length text = occurs.0 in
     let none_more : p + 0 ≡ p = omega arith in
     let byte : get_or bytes p 0 ≡ get_or text 0 0 =
-    ap (λ k. get_or bytes k 0) (sym none_more) ∙ follows-byte bytes p text (drop q bytes) 0 (stands-follows bytes p text q stands) (omega arith) in
+    ap (λ k. get_or bytes k 0) (sym none_more) ∙ follows-byte bytes p text (drop q bytes) 0 (occurs-follows bytes p text q occurs) (omega arith) in
     let start = IsCharBoundary-start text utf8 in
     (omega arith, λ within high. subst (λ b. 192 ≤ b) (sym byte) (start.1 (omega arith) (subst (λ b. 128 ≤ b) byte high)))
 

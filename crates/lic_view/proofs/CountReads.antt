@@ -28,13 +28,13 @@ follows-more bytes p xs ys after h =
     let first : drop p bytes ≡ xs ++ (ys ++ after) = h ∙ append_assoc xs ys after in
     (first, sym (drop-drop (length xs) p bytes) ∙ ap (drop (length xs)) first ∙ drop_at xs (ys ++ after) (length xs) refl)
 
-follows-stands : (bytes : List ℕ) (p : ℕ) (xs after : List ℕ) → Follows bytes p xs after → Occurs bytes p xs (p + length xs)
-follows-stands bytes p xs after h =
+follows-occurs : (bytes : List ℕ) (p : ℕ) (xs after : List ℕ) → Follows bytes p xs after → Occurs bytes p xs (p + length xs)
+follows-occurs bytes p xs after h =
     let n : (p + length xs) - p ≡ length xs = omega arith in
     (refl, ap (λ k. take k (drop p bytes)) n ∙ ap (take (length xs)) h ∙ take_at xs after (length xs) refl)
 
-pub stands-follows : (bytes : List ℕ) (p : ℕ) (xs : List ℕ) (q : ℕ) → Occurs bytes p xs q → Follows bytes p xs (drop q bytes)
-stands-follows bytes p xs q h =
+pub occurs-follows : (bytes : List ℕ) (p : ℕ) (xs : List ℕ) (q : ℕ) → Occurs bytes p xs q → Follows bytes p xs (drop q bytes)
+occurs-follows bytes p xs q h =
     let n : q - p ≡ length xs = let e : q ≡ p + length xs = h.0 in omega arith in
     let back : p + (q - p) ≡ q = let e : q ≡ p + length xs = h.0 in omega arith in
     sym (take-append-drop (q - p) (drop p bytes))
@@ -73,9 +73,9 @@ no_blank_byte c k other within e =
 -- a letter begins where its bytes occur
 letter_begins : (tokens : List TokenValue) (p c q : ℕ) → (c ≡ blank → ⊥) → IsScalar c → Occurs (spelling_of tokens) p (encode_utf8 c) q
     → IsLetterPlace tokens p
-letter_begins tokens p c q other scalar stands =
+letter_begins tokens p c q other scalar occurs =
     let bytes = spelling_of tokens in
-    let follows = stands-follows bytes p (encode_utf8 c) q stands in
+    let follows = occurs-follows bytes p (encode_utf8 c) q occurs in
     let zero_more : p + 0 ≡ p = omega arith in
     let some = some_bytes c in
     let byte : get_or bytes p 0 ≡ get_or (encode_utf8 c) 0 0 =
@@ -91,11 +91,11 @@ letter_begins tokens p c q other scalar stands =
 -- no blank comes before the place where it ends
 letter_ends : (tokens : List TokenValue) (p c q : ℕ) → (c ≡ blank → ⊥) → Occurs (spelling_of tokens) p (encode_utf8 c) q
     → IsAfterBlank (spelling_of tokens) q → ⊥
-letter_ends tokens p c q other stands (r, e, is) =
+letter_ends tokens p c q other occurs (r, e, is) =
     let bytes = spelling_of tokens in
-    let follows = stands-follows bytes p (encode_utf8 c) q stands in
+    let follows = occurs-follows bytes p (encode_utf8 c) q occurs in
     let some = some_bytes c in
-    let end : q ≡ p + length (encode_utf8 c) = stands.0 in
+    let end : q ≡ p + length (encode_utf8 c) = occurs.0 in
     let at : p + (length (encode_utf8 c) - 1) ≡ r = omega arith in
     let byte = follows-byte bytes p (encode_utf8 c) (drop q bytes) (length (encode_utf8 c) - 1) follows (omega arith) in
     no_blank_byte c (length (encode_utf8 c) - 1) other (omega arith)
@@ -105,11 +105,11 @@ letter_ends tokens p c q other stands (r, e, is) =
 
 reads-ends : (tokens : List TokenValue) (w : Word) (c p q : ℕ) → ((u : Word) → c ∷ w ≡ u ++ blank ∷ [] → ⊥) → Reads tokens p (c ∷ w) q
     → IsAfterBlank (spelling_of tokens) q → ⊥
-reads-ends tokens [] c p q last (r, inl (e, o), reads) behind = last [] (ap (λ x. x ∷ []) e)
-reads-ends tokens [] c p q last (r, inr (other, scalar, stands), reads) behind =
-    letter_ends tokens p c r other stands (subst (IsAfterBlank (spelling_of tokens)) (sym reads) behind)
-reads-ends tokens (d ∷ w) c p q last (r, takes, reads) behind =
-    reads-ends tokens w d r q (λ u e. last (c ∷ u) (ap (λ x. c ∷ x) e)) reads behind
+reads-ends tokens [] c p q last (r, inl (e, o), reads) past = last [] (ap (λ x. x ∷ []) e)
+reads-ends tokens [] c p q last (r, inr (other, scalar, occurs), reads) past =
+    letter_ends tokens p c r other occurs (subst (IsAfterBlank (spelling_of tokens)) (sym reads) past)
+reads-ends tokens (d ∷ w) c p q last (r, takes, reads) past =
+    reads-ends tokens w d r q (λ u e. last (c ∷ u) (ap (λ x. c ∷ x) e)) reads past
 
 -- what is known of places between which a tidy word is read
 pub record IsFree (tokens : List TokenValue) (p q : ℕ) : Type 0 where
@@ -120,14 +120,14 @@ pub record IsFree (tokens : List TokenValue) (p q : ℕ) : Type 0 where
 pub counted-reads : (tokens : List TokenValue) (w : Word) (p q : ℕ) → IsTidy w → 1 ≤ length w → Reads tokens p w q → IsFree tokens p q
 counted-reads tokens [] p q tidied some reads = absurd (omega arith)
 counted-reads tokens (c ∷ w) p q tidied some (r, inl (e, o), reads) = absurd (tidied.not_first w (ap (λ x. x ∷ w) e))
-counted-reads tokens (c ∷ w) p q tidied some (r, inr (other, scalar, stands), reads) =
+counted-reads tokens (c ∷ w) p q tidied some (r, inr (other, scalar, occurs), reads) =
     let bytes = some_bytes c in
-    let end : r ≡ p + length (encode_utf8 c) = stands.0 in
+    let end : r ≡ p + length (encode_utf8 c) = occurs.0 in
     let later : r ≤ q = reads-forward tokens w r q reads in
     record {
       before = omega arith;
-      begins = letter_begins tokens p c r other scalar stands;
-      ends = reads-ends tokens w c p q tidied.not_last (r, inr (other, scalar, stands), reads);
+      begins = letter_begins tokens p c r other scalar occurs;
+      ends = reads-ends tokens w c p q tidied.not_last (r, inr (other, scalar, occurs), reads);
     }
 
 -- ---- the word that is between two places
@@ -168,7 +168,7 @@ reads-letters tokens (c ∷ cs) p after all follows =
             subst (λ k. IsTrue (is_blank_at (spelling_of tokens) k)) z (follows-blank (spelling_of tokens) p [] [] (encode_utf8_all cs ++ after) here) in
             inl (e, subst (OverBlank tokens p) n (over is))
         taken (inr other) =
-            inr (other, (scalar-head c cs all).0, follows-stands (spelling_of tokens) p (encode_utf8 c) (encode_utf8_all cs ++ after) parts.0)
+            inr (other, (scalar-head c cs all).0, follows-occurs (spelling_of tokens) p (encode_utf8 c) (encode_utf8_all cs ++ after) parts.0)
 
 -- the bytes of a word with a blank in it
 blank-within : (u v : Word) → encode_utf8_all (u ++ blank ∷ v) ≡ encode_utf8_all u ++ (blank ∷ encode_utf8_all v)
@@ -229,7 +229,7 @@ counted-word tokens p q texts whole free =
         let end : q ≡ p + length (encode_utf8_all cs) =
         let l : length (encode_utf8_all cs) ≡ q - p = ap length same ∙ long in
         let before : p < q = free.before in omega arith in
-        let follows = stands-follows bytes p (encode_utf8_all cs) q (end, sym same) in
+        let follows = occurs-follows bytes p (encode_utf8_all cs) q (end, sym same) in
         record {
           word = cs;
           reads = subst (Reads tokens p cs) (sym end) (reads-letters tokens cs p (drop q bytes) all follows);

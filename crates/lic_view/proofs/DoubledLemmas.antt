@@ -113,9 +113,6 @@ as-many tokens other spans some kind is among left = record {
         within-reached tokens other r.holds.span some p r.number last kind (stays (left other is)) within r.holds.from r.holds.to r.holds.last_is
         (subst (λ k. IsPlaceOf tokens k r.number p) (sym r.holds.kind_is) r.place)
 
-pub as-many-same : (tokens : List TokenValue) (spans : List PlaceSpan) → AreAsMany tokens spans spans
-as-many-same tokens spans = record { among = λ s there. there; all = λ p last r. r }
-
 -- going back leads to these as well
 pub back-as_many : (keep : Keep) (tokens : List TokenValue) (P : Word → Type 0) (Ends : ℕ → ℕ → Type 0) (spans some : List PlaceSpan)
     → AreAsMany tokens spans some → IsBackFrom keep tokens P Ends spans → IsBackFrom keep tokens P Ends some

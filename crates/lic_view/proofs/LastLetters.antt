@@ -14,26 +14,26 @@ letter-long : (c : ℕ) → 0 < length (encode c)
 letter-long c = omega (arith, length-encode c, (len_utf8_bounds c).0)
 
 -- what follows a place where bytes occur begins with them
-pub stands-drop : (bytes : List ℕ) (p : ℕ) (text : List ℕ) (q : ℕ) → Occurs bytes p text q → drop p bytes ≡ text ++ drop q bytes
-stands-drop bytes p text q stands =
-    let end : p + (q - p) ≡ q = omega (arith, stands.0) in
+pub occurs-drop : (bytes : List ℕ) (p : ℕ) (text : List ℕ) (q : ℕ) → Occurs bytes p text q → drop p bytes ≡ text ++ drop q bytes
+occurs-drop bytes p text q occurs =
+    let end : p + (q - p) ≡ q = omega (arith, occurs.0) in
     sym (take-append-drop (q - p) (drop p bytes))
-    ∙ ap₂ (λ x y. x ++ y) stands.1 (drop-drop (q - p) p bytes ∙ ap (λ n. drop n bytes) end)
+    ∙ ap₂ (λ x y. x ++ y) occurs.1 (drop-drop (q - p) p bytes ∙ ap (λ n. drop n bytes) end)
 
 -- letters that occur lie in the text
 pub letter-within : (bytes : List ℕ) (place p c : ℕ) → IsLetterBefore bytes place p c → place ≤ length bytes
 letter-within bytes place p c is =
     let long = letter-long c in
-    let from = ap length (stands-drop bytes p (encode c) place is.stands) in
+    let from = ap length (occurs-drop bytes p (encode c) place is.occurs) in
     let parts = length-append (encode c) (drop place bytes) in
     let first = length-drop p bytes in
     let second = length-drop place bytes in
-    omega (arith, is.stands.0)
+    omega (arith, is.occurs.0)
 
 -- a character begins where a letter is
 pub letter-whole : (bytes : List ℕ) (place p c : ℕ) → IsLetterBefore bytes place p c → IsCharBoundary bytes p
 letter-whole bytes place p c is = (
-  omega (arith, is.stands.0, within),
+  omega (arith, is.occurs.0, within),
   λ below big. lead big,
 )
   where
@@ -42,7 +42,7 @@ letter-whole bytes place p c is = (
 
     first : get_or (encode c) 0 0 ≡ get_or bytes p 0
     first = let long = letter-long c in
-        sym (ap (λ x. get_or x 0 0) is.stands.1) ∙ (get_or-between bytes p place 0 0 (omega (arith, is.stands.0)) ∙ ap (λ i. get_or bytes i 0) (omega arith))
+        sym (ap (λ x. get_or x 0 0) is.occurs.1) ∙ (get_or-between bytes p place 0 0 (omega (arith, is.occurs.0)) ∙ ap (λ i. get_or bytes i 0) (omega arith))
 
     lead : 128 ≤ get_or bytes p 0 → 192 ≤ get_or bytes p 0
     lead big = let front = (IsCharBoundary-start (encode c) (IsUtf8-encode c is.scalar)).1 (letter-long c) (omega (arith, big, first)) in omega (arith, front, first)
@@ -51,8 +51,8 @@ letter-whole bytes place p c is = (
 pub letter-end : (bytes : List ℕ) (place p c : ℕ) → IsUtf8 bytes → IsLetterBefore bytes place p c → IsCharBoundary bytes place
 letter-end bytes place p c utf8 is =
     let whole = letter-whole bytes place p c is in
-    let end = IsCharBoundary-past_char bytes (drop place bytes) p c whole.0 (IsUtf8-drop bytes p utf8 whole) (stands-drop bytes p (encode c) place is.stands) in
-    subst (λ x. IsCharBoundary bytes x) (ap (λ n. p + n) (sym (length-encode c)) ∙ sym is.stands.0) end
+    let end = IsCharBoundary-past_char bytes (drop place bytes) p c whole.0 (IsUtf8-drop bytes p utf8 whole) (occurs-drop bytes p (encode c) place is.occurs) in
+    subst (λ x. IsCharBoundary bytes x) (ap (λ n. p + n) (sym (length-encode c)) ∙ sym is.occurs.0) end
 
 -- one letter at most comes before a place
 pub letter-one : (bytes : List ℕ) (place p c r d : ℕ) → IsUtf8 bytes → IsLetterBefore bytes place p c → IsLetterBefore bytes place r d → (p ≡ r) × (c ≡ d)
@@ -68,9 +68,9 @@ letter-one bytes place p c r d utf8 one other = by_order (cases_lt p r) (cases_l
         parts : encode c ++ drop place bytes ≡ take (r - p) (drop p bytes) ++ (encode d ++ drop place bytes)
         parts =
             let end : p + (r - p) ≡ r = omega arith in
-            sym (stands-drop bytes p (encode c) place one.stands)
+            sym (occurs-drop bytes p (encode c) place one.occurs)
             ∙ sym (take-append-drop (r - p) (drop p bytes))
-            ∙ ap (λ x. take (r - p) (drop p bytes) ++ x) (drop-drop (r - p) p bytes ∙ ap (λ n. drop n bytes) end ∙ stands-drop bytes r (encode d) place other.stands)
+            ∙ ap (λ x. take (r - p) (drop p bytes) ++ x) (drop-drop (r - p) p bytes ∙ ap (λ n. drop n bytes) end ∙ occurs-drop bytes r (encode d) place other.occurs)
 
         long : 0 < length (take (r - p) (drop p bytes))
         long = let within = (letter-whole bytes place r d other).0 in
@@ -96,7 +96,7 @@ letter-one bytes place p c r d utf8 one other = by_order (cases_lt p r) (cases_l
     by_order (inr not) (inr none) =
         let same : p ≡ r = omega arith in
         let letters : encode c ++ drop place bytes ≡ encode d ++ drop place bytes =
-        sym (stands-drop bytes p (encode c) place one.stands) ∙ ap (λ n. drop n bytes) same ∙ stands-drop bytes r (encode d) place other.stands in
+        sym (occurs-drop bytes p (encode c) place one.occurs) ∙ ap (λ n. drop n bytes) same ∙ occurs-drop bytes r (encode d) place other.occurs in
         let letter = encode_same c d (drop place bytes) (drop place bytes) letters in
         (same, letter.0)
 
@@ -104,7 +104,7 @@ letter-one bytes place p c r d utf8 one other = by_order (cases_lt p r) (cases_l
 pub letter-found : (bytes front : List ℕ) (place c : ℕ) → place ≤ length bytes → IsScalar c → take place bytes ≡ front ++ encode c → IsLetterBefore bytes place (length front) c
 letter-found bytes front place c within scalar came = record {
   scalar = scalar;
-  stands = (end, ap₂ take (omega (arith, end)) from ∙ take_at (encode c) (drop place bytes) (length (encode c)) refl);
+  occurs = (end, ap₂ take (omega (arith, end)) from ∙ take_at (encode c) (drop place bytes) (length (encode c)) refl);
 }
   where
     end : place ≡ length front + length (encode c)
@@ -120,4 +120,4 @@ letter-none bytes place p c none is =
     let within = letter-within bytes place p c is in
     let whole = length-take place bytes in
     let long = letter-long c in
-    omega (arith, is.stands.0)
+    omega (arith, is.occurs.0)

@@ -18,13 +18,13 @@ use Rattle.lic_view.specs.declared.sets.keep.Keep.{Keep}
 
 -- a character begins where letters in UTF-8 are
 letters-whole : (bytes letters : List ℕ) (p q : ℕ) → IsUtf8 letters → 0 < length letters → q ≤ length bytes → Occurs bytes p letters q → IsCharBoundary bytes p
-letters-whole bytes letters p q utf8 some within stands = (
-  omega (arith, stands.0),
+letters-whole bytes letters p q utf8 some within occurs = (
+  omega (arith, occurs.0),
   λ below big. lead big,
 )
   where
     first : get_or letters 0 0 ≡ get_or bytes p 0
-    first = sym (ap (λ x. get_or x 0 0) stands.1) ∙ (get_or-between bytes p q 0 0 (omega (arith, stands.0)) ∙ ap (λ i. get_or bytes i 0) (omega arith))
+    first = sym (ap (λ x. get_or x 0 0) occurs.1) ∙ (get_or-between bytes p q 0 0 (omega (arith, occurs.0)) ∙ ap (λ i. get_or bytes i 0) (omega arith))
 
     lead : 128 ≤ get_or bytes p 0 → 192 ≤ get_or bytes p 0
     lead big = let front = (IsCharBoundary-start letters utf8).1 some (omega (arith, big, first)) in omega (arith, front, first)
@@ -40,8 +40,8 @@ back-letters keep tokens letters Ends q last texts are within front end ends e =
     end ends refl
     ((text-read tokens letters e.start q texts are.utf8 are.piece are.some are.front are.end).1 (e.end, e.is))
     (λ r v has reads.
-    let stands = (text-read tokens letters r q texts are.utf8 are.piece are.some are.front are.end).0 (subst (λ x. Reads tokens r x q) has reads) in
-    omega (arith, stands.0, e.end))
+    let occurs = (text-read tokens letters r q texts are.utf8 are.piece are.some are.front are.end).0 (subst (λ x. Reads tokens r x q) has reads) in
+    omega (arith, occurs.0, e.end))
 
 -- where they end at no place of a set
 pub back-no_letters : (keep : Keep) (tokens : List TokenValue) (letters : List ℕ) (Ends : ℕ → ℕ → Type 0) → AreTexts tokens → AreLetters letters →
@@ -49,5 +49,5 @@ pub back-no_letters : (keep : Keep) (tokens : List TokenValue) (letters : List �
     ((q last : ℕ) → Ends q last → ¬ (EndsAt (spelling_of tokens) letters q)) → IsBackFrom keep tokens (IsWordOf letters) Ends []
 back-no_letters keep tokens letters Ends texts are within none = back-nothing keep tokens (IsWordOf letters) Ends
     (λ p q l w end has reads.
-    let stands = (text-read tokens letters p q texts are.utf8 are.piece are.some are.front are.end).0 (subst (λ x. Reads tokens p x q) has reads) in
-    none q l end (record { start = p; end = stands.0; within = within q l end; is = stands.1 }))
+    let occurs = (text-read tokens letters p q texts are.utf8 are.piece are.some are.front are.end).0 (subst (λ x. Reads tokens p x q) has reads) in
+    none q l end (record { start = p; end = occurs.0; within = within q l end; is = occurs.1 }))

@@ -22,17 +22,6 @@ pub record AreMergedTo (spans others all : List PlaceSpan) (number from : ℕ) :
   pub one : (s : PlaceSpan) → Contains (take number spans) s → Contains all s
   pub other : (s : PlaceSpan) → Contains others s → Contains all s ⊎ Contains (drop from others) s
 
-none-of : (s : PlaceSpan) → Contains [] s → ⊥
-none-of s among = omega (arith, among.1)
-
--- nothing yet
-pub merged-none : (spans others all : List PlaceSpan) → all ≡ [] → AreMergedTo spans others all 0 0
-merged-none spans others all none = record {
-  among = λ s among. absurd (none-of s (subst (λ x. Contains x s) none among));
-  one = λ s among. absurd (none-of s among);
-  other = λ s among. inr among;
-}
-
 module _ (spans others all : List PlaceSpan) (number from : ℕ) (are : AreMergedTo spans others all number from) where
   -- a span of the one list, and before it some of the other
   pub merged-more : (next : ℕ) (d : PlaceSpan) (more new : List PlaceSpan) → number < length spans → from ≤ next →

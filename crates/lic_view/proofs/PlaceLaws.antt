@@ -11,8 +11,8 @@ pub use Rattle.lic_keys.proofs.RequiredEndLemmas.{text-read}
 pub place_end-rises : (tokens : List TokenValue) (i j : ℕ) → AreTexts tokens → i < j → j < length tokens → place_end tokens i < place_end tokens j
 place_end-rises = ends-rise
 
-pub end-not_behind : (tokens : List TokenValue) (i : ℕ) → AreTexts tokens → i < length tokens → ¬ (IsAfterBlank (spelling_of tokens) (place_end tokens i))
-end-not_behind = token-ends
+pub end-not_after : (tokens : List TokenValue) (i : ℕ) → AreTexts tokens → i < length tokens → ¬ (IsAfterBlank (spelling_of tokens) (place_end tokens i))
+end-not_after = token-ends
 
 pub blank-one : (tokens : List TokenValue) (p r q : ℕ) → OverBlank tokens p q → OverBlank tokens r q → p ≡ r
 blank-one = OverBlank-one

@@ -3,13 +3,6 @@ use Rattle.std.proofs.Common.{◌≡◌, ℕ, ◌+◌, ◌<◌, ◌≤◌, List,
 use Rattle.std.proofs.lemmas.List.{take_all, take_more}
 use Rattle.lic_spans.specs.declared.span.PlaceSpan.{PlaceSpan}
 
-pub span-same : (a b : PlaceSpan) → a.low ≡ b.low → a.high ≡ b.high → a.last ≡ b.last → a.kind ≡ b.kind → a ≡ b
-span-same a b low high last kind =
-    ap (λ x. record a { low = x }) low
-    ∙ (ap (λ x. record a { low = b.low; high = x }) high
-    ∙ (ap (λ x. record a { low = b.low; high = b.high; last = x }) last
-    ∙ ap (λ x. record a { low = b.low; high = b.high; last = b.last; kind = x }) kind))
-
 pub same-more : (xs ys : List PlaceSpan) (i : ℕ) (d e : PlaceSpan) → i < length xs → i < length ys → take i xs ≡ take i ys → get_or xs i d ≡ get_or ys i e →
     take (i + 1) xs ≡ take (i + 1) ys
 same-more xs ys i d e one other same item =

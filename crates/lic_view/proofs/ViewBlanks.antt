@@ -12,8 +12,8 @@ over_blank-cases tokens p q (over blank) = inl (refl, blank)
 over_blank-cases tokens p q (stays free gap) = inr (refl, free, gap)
 
 -- over the blank before a place
-pub over_blank-behind : (tokens : List TokenValue) (place : ℕ) → IsAfterBlank (spelling_of tokens) place → OverBlank tokens (place - 1) place
-over_blank-behind tokens place behind =
+pub over_blank-past : (tokens : List TokenValue) (place : ℕ) → IsAfterBlank (spelling_of tokens) place → OverBlank tokens (place - 1) place
+over_blank-past tokens place past =
     let P : ℕ → ℕ → Type 0 = λ p q. OverBlank tokens p q in
-    let same : behind.0 ≡ place - 1 = omega (arith, behind.1) in
-    subst (λ q. P (place - 1) q) (sym behind.1) (subst (λ p. P p (suc behind.0)) same (over behind.2))
+    let same : past.0 ≡ place - 1 = omega (arith, past.1) in
+    subst (λ q. P (place - 1) q) (sym past.1) (subst (λ p. P p (suc past.0)) same (over past.2))

@@ -46,30 +46,6 @@ starts-order tokens i j texts le within =
       | inr before ↦ omega (arith, tokens_stand-order tokens i texts (omega arith), starts-after tokens i j texts before within)
     ]
 
--- a token begins after the blank where the one before it ends
-pub start-over : (tokens : List TokenValue) (before i : ℕ) → AreTexts tokens → i ≡ suc before → i < length tokens
-    → is_blank_at (spelling_of tokens) (place_end tokens before) ≡ true → place_end tokens before + 1 ≡ place_start tokens i
-start-over tokens before i texts next within blank =
-    let inside : suc before < length tokens = omega arith in
-    let here = ap (λ n. place_start tokens n) next in
-    elim (tokens_stand-next tokens before texts inside) [
-      | inl same ↦
-          let bytes = spelling_of tokens in
-          let none = no_blank-start tokens (suc before) texts inside in
-          absurd (true≢false (sym blank ∙ ap (λ p. is_blank_at bytes p) (sym same) ∙ none))
-      | inr after ↦ omega (arith, after.0, here)
-    ]
-
--- or, where no blank is, right there
-pub start-same : (tokens : List TokenValue) (before i : ℕ) → AreTexts tokens → i ≡ suc before → i < length tokens
-    → is_blank_at (spelling_of tokens) (place_end tokens before) ≡ false → place_end tokens before ≡ place_start tokens i
-start-same tokens before i texts next within blank =
-    let here = ap (λ n. place_start tokens n) next in
-    elim (tokens_stand-next tokens before texts (omega arith)) [
-      | inl same ↦ omega (arith, same, here)
-      | inr after ↦ absurd (true≢false (sym after.1 ∙ blank))
-    ]
-
 -- ---- the first token from a place on
 
 -- a token in the middle ends before the place

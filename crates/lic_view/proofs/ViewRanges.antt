@@ -128,6 +128,3 @@ module _ (tokens : List TokenValue) (first count : ℕ) (within : first + count 
     ends = λ i h. absurd (omega arith);
     starts = λ i h. absurd (omega arith);
   }
-
-pub part-all : (tokens : List TokenValue) → slice_range tokens 0 (0 + length tokens) ≡ tokens
-part-all tokens = take_all (0 + length tokens - 0) tokens (omega arith)

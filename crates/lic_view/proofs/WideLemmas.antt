@@ -120,9 +120,9 @@ listed-all keep tokens P Meant span ends count old new wide has after meant adds
 pub letters-meant : (tokens : List TokenValue) (letters : List ℕ) (spans : List PlaceSpan) → AreTexts tokens → AreLetters letters → ArePlaced tokens spans →
     (p q last : ℕ) (w : Word) → Reaches tokens spans q last → IsWordOf letters w → Reads tokens p w q → EndsAt (spelling_of tokens) letters q
 letters-meant tokens letters spans texts are placed p q last w r is reads =
-    let stands = (text-read tokens letters p q texts are.utf8 are.piece are.some are.front are.end).0 (subst (λ x. Reads tokens p x q) is reads) in
+    let occurs = (text-read tokens letters p q texts are.utf8 are.piece are.some are.front are.end).0 (subst (λ x. Reads tokens p x q) is reads) in
     let token = Holds-last tokens spans r.kind r.number last placed r.holds in
-    record { start = p; end = stands.0; within = omega (arith, Reaches-in_front tokens spans q last placed r, end-within tokens last token); is = stands.1 }
+    record { start = p; end = occurs.0; within = omega (arith, Reaches-in_front tokens spans q last placed r, end-within tokens last token); is = occurs.1 }
 
 -- the place is one of the span's
 abbrev pub HasPlace : List TokenValue → PlaceSpan → ℕ → Type 0

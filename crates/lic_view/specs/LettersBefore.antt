@@ -6,4 +6,4 @@ use Rattle.lic_places.specs.Places.{Occurs}
 -- this letter comes before a place, from another on
 pub record IsLetterBefore (bytes : List ℕ) (place start letter : ℕ) : Type 0 where
   pub scalar : IsScalar letter
-  pub stands : Occurs bytes start (encode_utf8 letter) place
+  pub occurs : Occurs bytes start (encode_utf8 letter) place

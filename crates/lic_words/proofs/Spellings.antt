@@ -36,9 +36,9 @@ HasNoBlank-from last apart (c ∷ sequence) = by_letter (λ l a. HasNoBlank-from
     by_letter rest false h = rw h (not_blank c h, rest c false)
 
 -- a blank is no letter of a word
-pub gap-behind_blank : (c : ℕ) → gap_of true (is_word blank && is_word c) ≡ free
+pub gap-after_blank : (c : ℕ) → gap_of true (is_word blank && is_word c) ≡ free
 unfolding kind_of
-gap-behind_blank c = refl
+gap-after_blank c = refl
 
 BeginsFree-from : (sequence : List ℕ) → BeginsFree (gapped_from blank true sequence)
 BeginsFree-from [] = tt
@@ -46,7 +46,7 @@ BeginsFree-from (c ∷ sequence) = by_letter (BeginsFree-from sequence) (c == bl
   where
     by_letter : BeginsFree (gapped_from blank true sequence) → (b : Bool) → (c == blank) ≡ b → BeginsFree (gapped_from blank true (c ∷ sequence))
     by_letter rest true h = rw h rest
-    by_letter rest false h = rw h (gap-behind_blank c)
+    by_letter rest false h = rw h (gap-after_blank c)
 
 BeginsFree-gapped : (ts : List (List ℕ)) → BeginsFree (gapped ts)
 BeginsFree-gapped [] = tt
@@ -109,10 +109,10 @@ Spells-before w ts = (
   not_before w (gapped ts) (HasNoBlank-from blank false (sequence_of ts)) (BeginsFree-gapped ts),
 )
 
-behind : (w : Word) (gaps : Gapped) → SpellsGapped w gaps → SpellsGapped (w ++ blank ∷ []) gaps
-behind w [] (n, e) = (n + 1, ap (λ x. x ++ blank ∷ []) e ∙ replicate_more n blank)
-behind w (p ∷ rest) (n, allows, v, e, s) =
-    (n, allows, v ++ blank ∷ [], ap (λ x. x ++ blank ∷ []) e ∙ append_assoc (blanks n) (p.1 ∷ v) (blank ∷ []), behind v rest s)
+past : (w : Word) (gaps : Gapped) → SpellsGapped w gaps → SpellsGapped (w ++ blank ∷ []) gaps
+past w [] (n, e) = (n + 1, ap (λ x. x ++ blank ∷ []) e ∙ replicate_more n blank)
+past w (p ∷ rest) (n, allows, v, e, s) =
+    (n, allows, v ++ blank ∷ [], ap (λ x. x ++ blank ∷ []) e ∙ append_assoc (blanks n) (p.1 ∷ v) (blank ∷ []), past v rest s)
 
 blanks-front : (w : Word) (n : ℕ) → w ++ blank ∷ [] ≡ blanks n → (m : ℕ) × (w ≡ blanks m)
 blanks-front [] n e = (0, refl)
@@ -139,14 +139,14 @@ letter-front (d ∷ w) (suc n) c v h e =
     let (u, f, g) = letter-front w n c v h tail in
     (u, f, ap (λ x. x ∷ w) first ∙ ap (λ x. blank ∷ x) g)
 
-not_behind : (w : Word) (gaps : Gapped) → HasNoBlank gaps → SpellsGapped (w ++ blank ∷ []) gaps → SpellsGapped w gaps
-not_behind w [] h (n, e) = blanks-front w n e
-not_behind w (p ∷ rest) (other, h) (n, allows, v, e, s) =
+not_after : (w : Word) (gaps : Gapped) → HasNoBlank gaps → SpellsGapped (w ++ blank ∷ []) gaps → SpellsGapped w gaps
+not_after w [] h (n, e) = blanks-front w n e
+not_after w (p ∷ rest) (other, h) (n, allows, v, e, s) =
     let (u, f, g) = letter-front w n p.1 v other e in
-    (n, allows, u, g, not_behind u rest h (subst (λ x. SpellsGapped x rest) f s))
+    (n, allows, u, g, not_after u rest h (subst (λ x. SpellsGapped x rest) f s))
 
-pub Spells-behind : (w : Word) (ts : List (List ℕ)) → Spells w ts ↔ Spells (w ++ blank ∷ []) ts
-Spells-behind w ts = (
-  behind w (gapped ts),
-  not_behind w (gapped ts) (HasNoBlank-from blank false (sequence_of ts)),
+pub Spells-past : (w : Word) (ts : List (List ℕ)) → Spells w ts ↔ Spells (w ++ blank ∷ []) ts
+Spells-past w ts = (
+  past w (gapped ts),
+  not_after w (gapped ts) (HasNoBlank-from blank false (sequence_of ts)),
 )

@@ -9,17 +9,17 @@ use Rattle.lic_words.specs.Expressions.{Expression}
 use Rattle.lic_words.specs.Describing.{IsDescribed}
 use Rattle.lic_words.specs.Reversal.{reversed_expression, reversed_tokens}
 use Rattle.lic_words.proofs.Reversal.{Language-reversed_expression, reversed_expression-Language}
-use Rattle.lic_words.proofs.Spellings.{gap-behind_blank}
+use Rattle.lic_words.proofs.Spellings.{gap-after_blank}
 
 -- the letters, each with the gap after it; after the last any number of blanks may be
-abbrev pub behind : List (Gap × ℕ) → List (Gap × ℕ)
-behind [] = []
-behind (p ∷ []) = (free, p.1) ∷ []
-behind (p ∷ q ∷ rest) = (q.0, p.1) ∷ behind (q ∷ rest)
+abbrev pub past : List (Gap × ℕ) → List (Gap × ℕ)
+past [] = []
+past (p ∷ []) = (free, p.1) ∷ []
+past (p ∷ q ∷ rest) = (q.0, p.1) ∷ past (q ∷ rest)
 
 -- the same letters from the last on
 abbrev pub mirror : List (Gap × ℕ) → List (Gap × ℕ)
-mirror F = reverse (behind F)
+mirror F = reverse (past F)
 
 -- as SpellsGapped, with no blank at the end
 abbrev SpellsEnd : Word → List (Gap × ℕ) → Type 0
@@ -68,20 +68,20 @@ Behind-reversed (p ∷ rest) w (n, a, v, e, s) =
     rw (sequence, word) whole
 
 -- the blanks before the first letter, and the rest letter by letter
-to_behind : (p : Gap × ℕ) (rest : List (Gap × ℕ)) (w : Word) → SpellsGapped w (p ∷ rest)
-    → (k : ℕ) × Allows p.0 k × (u : Word) × (w ≡ blanks k ++ u) × SpellsBehind u (behind (p ∷ rest))
-to_behind p [] w (n, a, v, e, (m, t)) = (n, a, p.1 ∷ v, e, (m, tt, [], ap (λ s. p.1 ∷ s) (t ∙ sym (append-nil (blanks m))), refl))
-to_behind p (q ∷ rest) w (n, a, v, e, s) =
-    let t = to_behind q rest v s in
+to_after : (p : Gap × ℕ) (rest : List (Gap × ℕ)) (w : Word) → SpellsGapped w (p ∷ rest)
+    → (k : ℕ) × Allows p.0 k × (u : Word) × (w ≡ blanks k ++ u) × SpellsBehind u (past (p ∷ rest))
+to_after p [] w (n, a, v, e, (m, t)) = (n, a, p.1 ∷ v, e, (m, tt, [], ap (λ s. p.1 ∷ s) (t ∙ sym (append-nil (blanks m))), refl))
+to_after p (q ∷ rest) w (n, a, v, e, s) =
+    let t = to_after q rest v s in
     (n, a, p.1 ∷ v, e, (t.0, t.1, t.2, ap (λ x. p.1 ∷ x) t.3, t.4))
 
 -- a word that spells the letters spells them in reverse from its end
 pub SpellsGapped-mirror : (F : List (Gap × ℕ)) (w : Word) → SpellsGapped w F → SpellsGapped (reverse w) (mirror F)
 SpellsGapped-mirror [] w (k, e) = (k, ap reverse e ∙ reverse-blanks k)
 SpellsGapped-mirror (p ∷ rest) w h =
-    let t = to_behind p rest w h in
+    let t = to_after p rest w h in
     let word : reverse w ≡ reverse t.2 ++ blanks t.0 = ap reverse t.3 ∙ reverse-append (blanks t.0) t.2 ∙ ap (λ s. reverse t.2 ++ s) (reverse-blanks t.0) in
-    rw word (End-then_blanks (mirror (p ∷ rest)) (reverse t.2) t.0 (Behind-reversed (behind (p ∷ rest)) t.2 t.4))
+    rw word (End-then_blanks (mirror (p ∷ rest)) (reverse t.2) t.0 (Behind-reversed (past (p ∷ rest)) t.2 t.4))
 
 abbrev head_gap : List (Gap × ℕ) → Gap
 head_gap [] = free
@@ -89,18 +89,18 @@ head_gap (p ∷ rest) = p.0
 
 mirror-cons : (p : Gap × ℕ) (F : List (Gap × ℕ)) → mirror (p ∷ F) ≡ mirror F ++ (head_gap F, p.1) ∷ []
 mirror-cons p [] = refl
-mirror-cons p (q ∷ rest) = reverse-append ((q.0, p.1) ∷ []) (behind (q ∷ rest))
+mirror-cons p (q ∷ rest) = reverse-append ((q.0, p.1) ∷ []) (past (q ∷ rest))
 
-behind-first : (g h : Gap) (c : ℕ) (F : List (Gap × ℕ)) → behind ((g, c) ∷ F) ≡ behind ((h, c) ∷ F)
-behind-first g h c [] = refl
-behind-first g h c (q ∷ rest) = refl
+past-first : (g h : Gap) (c : ℕ) (F : List (Gap × ℕ)) → past ((g, c) ∷ F) ≡ past ((h, c) ∷ F)
+past-first g h c [] = refl
+past-first g h c (q ∷ rest) = refl
 
 -- the letter before and the blanks before a sequence say its first gap alone
-behind-any : (l m : ℕ) (a b : Bool) (xs : List ℕ) → behind (gapped_from l a xs) ≡ behind (gapped_from m b xs)
-behind-any l m a b [] = refl
-behind-any l m a b (c ∷ xs) = elim (cases_Bool (c == blank)) [
-  | inl h ↦ rw h (behind-any l m true true xs)
-  | inr h ↦ rw h (behind-first (gap_of a (is_word l && is_word c)) (gap_of b (is_word m && is_word c)) c (gapped_from c false xs))
+past-any : (l m : ℕ) (a b : Bool) (xs : List ℕ) → past (gapped_from l a xs) ≡ past (gapped_from m b xs)
+past-any l m a b [] = refl
+past-any l m a b (c ∷ xs) = elim (cases_Bool (c == blank)) [
+  | inl h ↦ rw h (past-any l m true true xs)
+  | inr h ↦ rw h (past-first (gap_of a (is_word l && is_word c)) (gap_of b (is_word m && is_word c)) c (gapped_from c false xs))
 ]
 
 apart-snoc : (a : Bool) (xs : List ℕ) (c : ℕ) → apart_after a (xs ++ c ∷ []) ≡ (c == blank)
@@ -158,7 +158,7 @@ and-reversed_tokens false true = refl
 and-reversed_tokens false false = refl
 
 head-apart : (c : ℕ) (xs : List ℕ) → head_gap (gapped_from c true xs) ≡ gap_of true (is_word (first_letter xs) && is_word c)
-head-apart c [] = sym (gap-behind_blank c)
+head-apart c [] = sym (gap-after_blank c)
 head-apart c (d ∷ xs) = elim (cases_Bool (d == blank)) [
   | inl e ↦ rw e (head-apart c xs)
   | inr e ↦ rw e (ap (λ b. gap_of true b) (and-reversed_tokens (is_word c) (is_word d)))
@@ -167,7 +167,7 @@ head-apart c (d ∷ xs) = elim (cases_Bool (d == blank)) [
 head-is : (c : ℕ) (xs : List ℕ)
     → head_gap (gapped_from c false xs)
     ≡ gap_of (apart_after true (reverse xs)) (is_word (last_letter blank (reverse xs)) && is_word c)
-head-is c [] = sym (gap-behind_blank c)
+head-is c [] = sym (gap-after_blank c)
 head-is c (d ∷ xs) =
     let gap : apart_after true (reverse (d ∷ xs)) ≡ (d == blank) = ap (λ s. apart_after true s) (reverse-append (d ∷ []) xs) ∙ apart-snoc true (reverse xs) d in
     rw (gap, last-reverse (d ∷ xs)) (elim (cases_Bool (d == blank)) [
@@ -188,7 +188,7 @@ gapped-reversed (c ∷ xs) = elim (cases_Bool (c == blank)) [
       ∙ ap (λ s. s ++ (
         gap_of (apart_after true (reverse xs)) (is_word (last_letter blank (reverse xs)) && is_word c),
         c,
-      ) ∷ []) (gapped-reversed xs ∙ ap reverse (behind-any blank c true false xs))
+      ) ∷ []) (gapped-reversed xs ∙ ap reverse (past-any blank c true false xs))
       ∙ ap (λ g. mirror F ++ (g, c) ∷ []) (sym (head-is c xs))
       ∙ sym (mirror-cons (gap_of true (is_word blank && is_word c), c) F) ∙ rw e refl
 ]

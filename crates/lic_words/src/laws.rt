@@ -86,7 +86,7 @@ pub fn a_blank_after_is_free()
 /// A token with no blank is written whole: its letters side by side, and no blanks but before and after them.
 pub fn a_token_is_written_whole()
     ensures { (t w : List ℕ) → All (λ c. c ≢ blank) t
-        → Spells w (t ∷ []) ↔ ((before behind : ℕ) × (w ≡ blanks before ++ t ++ blanks behind)) }
+        → Spells w (t ∷ []) ↔ ((before past : ℕ) × (w ≡ blanks before ++ t ++ blanks past)) }
 {}
 
 /// Where two tokens with no blank meet in letters of words, a blank at least is written between them.
@@ -94,8 +94,8 @@ pub fn words_are_set_apart()
     ensures { (t u : List ℕ) (a b : ℕ) (w : List ℕ) → All (λ c. c ≢ blank) t
         → All (λ c. c ≢ blank) u → IsTrue (is_word a) → IsTrue (is_word b)
         → Spells w ((t ++ a ∷ []) ∷ (b ∷ u) ∷ [])
-        ↔ ((before between behind : ℕ) × (1 ≤ between)
-        × (w ≡ blanks before ++ (t ++ a ∷ []) ++ blanks between ++ (b ∷ u) ++ blanks behind)) }
+        ↔ ((before between past : ℕ) × (1 ≤ between)
+        × (w ≡ blanks before ++ (t ++ a ∷ []) ++ blanks between ++ (b ∷ u) ++ blanks past)) }
 {}
 
 /// A blank within a token is a gap as between two tokens.

@@ -1,6 +1,7 @@
 //! The first and the last flag of a range that is set.
 ghost use Rattle.std.specs.Prelude.{◌≡◌, ℕ, ◌+◌, ◌*◌, ◌≤◌, ◌<◌, ◌||◌, true, false, IfSome, IfNone};
-ghost use Rattle.lic_columns.specs.Masks.{has_bit, flag_at};
+ghost use Rattle.lic_columns.specs.Masks.{flag_at};
+ghost use Rattle.lic_trim.specs.PieceLengths.{has_bit};
 
 use crate::block::SIZE;
 use crate::flags::Flags;

@@ -1,11 +1,12 @@
 //! The first tokens of lines of an input.
 
-ghost use Rattle.std.specs.Prelude.{◌≡◌, ◌+◌, ◌++◌, ◌<◌, ◌≤◌, ◌^◌, List, length, IfOk, IfSome, OnOk, IsAscii, IsUtf8};
+ghost use Rattle.std.specs.Prelude.{◌≡◌, ◌+◌, ◌++◌, ◌<◌, ◌≤◌, ◌^◌, List, length, take, IfOk, IfSome, OnOk, IsAscii, IsUtf8};
 ghost use Rattle.lic_kind.specs.LineRules.{rules_of};
 ghost use Rattle.lic_trim.specs.Sources.{placed};
 ghost use Rattle.lic_lines.specs.Cells.{cells_of};
 ghost use Rattle.lic_lines.specs.Streaks.{streaks_joined};
 ghost use Rattle.lic_lines.specs.Tokens.{Token, first_tokens, line_tokens};
+ghost use Rattle.lic_norm.specs.Feeding.{AreLines};
 ghost use Rattle.lic_norm.specs.Reading.{HasTaken, HasTakenSome, phrases_of};
 ghost use Rattle.lic_norm.specs.Tokens.{first_tokens_of, line_tokens_of};
 
@@ -18,12 +19,13 @@ use lic_lines::{Buffers, Rules, left_of_line};
 use lic_trim::{LinePart, SourceChar};
 use simdutf8::compat::from_utf8;
 use std::alloc::{AllocError, Global};
+use std::fmt;
 
 /// A line of a whole input.
 const WHOLE_LINE: LinePart = LinePart {
     has_front: true,
     has_end: true,
-    behind: None,
+    past: None,
 };
 
 /// These bytes as a text, where all of them are ASCII.
@@ -44,12 +46,12 @@ const MAX_KEPT: usize = 65_536;
 /// Buffers for the work on lines, kept from one to the next. What they hold has no effect.
 #[derive(Drop)]
 pub struct LineBuffers {
-    /// The characters of a line that is not ASCII.
+    /// The characters of any other line.
     characters: Vec<SourceChar>,
     /// The letters of a token of such a line.
     letters: String,
     part: PartBuffers,
-    /// Lines of ASCII.
+    /// Lines that are read by columns.
     lines: Lines,
     /// Tokens of them that are spelled together.
     batch: Batch,
@@ -62,12 +64,18 @@ impl LineBuffers {
             characters: Vec::new(alloc),
             letters: String::new(alloc),
             part: PartBuffers {
-                room: Buffers::new(alloc),
+                buffers: Buffers::new(alloc),
                 tokens: Vec::new(alloc),
             },
             lines: Lines::new(alloc),
             batch: Batch::new(),
         }
+    }
+}
+
+impl fmt::Debug for LineBuffers {
+    fn fmt<W: fmt::Write>(&self, f: &mut fmt::Formatter<W>) -> fmt::Result {
+        f.write_str("LineBuffers")
     }
 }
 
@@ -155,4 +163,33 @@ pub fn take_ascii(
         *lines = Lines::new(alloc);
     }
     Ok(count)
+}
+
+/// Takes the tokens of the lines at the start of these bytes that are read by columns though they are not ASCII. Gives how many bytes
+/// these lines have. What the buffers hold has no effect.
+pub(crate) fn take_front(
+    alloc: Global,
+    rules: &Rules,
+    at: u32,
+    bytes: &[u8],
+    buffers: &mut LineBuffers,
+    rewriting: &mut Rewriting<'_>,
+) -> Result<usize, AllocError>
+    requires fits { at + length bytes.now + 65 ≤ 2 ^ 32 }
+    requires before { HasTakenSome rewriting.old }
+    ensures within { IfOk result (λ n. n ≤ length bytes.now) }
+    ensures lines { IfOk result (λ n. AreLines (take n bytes.now)) }
+    ensures taken { IfOk result (λ n. (taken : List Token) → HasTaken rewriting.old taken
+        → HasTaken rewriting.new (taken ++ first_tokens_of (rules_of rules.now) at (take n bytes.now))) }
+    ensures phrases { phrases_of rewriting.new ≡ phrases_of rewriting.old }
+    ensures other { IfOk result (λ n. n ≡ 0 → rewriting.new ≡ rewriting.old) }
+{
+    let lines = &mut buffers.lines;
+    let end = lines.read_front(rules, at, bytes)?;
+    if end == 0 {
+        return Ok(0);
+    }
+    let stretch = Stretch::of(at, lines);
+    rewriting.take_stretch(alloc, &stretch, &mut buffers.batch)?;
+    Ok(end)
 }

@@ -7,7 +7,7 @@ ghost use Rattle.lic_norm.specs.LineEnds.{IsFirstLine};
 use memchr::{memchr, memrchr};
 
 /// So many bytes are read together at most, unless a line has more.
-const MAX_TOGETHER: usize = 65_536;
+pub const MAX_TOGETHER: usize = 65_536;
 
 /// So many bytes are tested together for bytes beyond ASCII.
 const BLOCK: usize = 64;

@@ -1,7 +1,8 @@
-//! Plain tokens of lines of ASCII that are spelled together.
+//! Plain tokens of lines that are spelled together.
 ghost use Rattle.std.specs.Prelude.{◌≡◌, ◌+◌, ◌++◌, ◌^◌, ◌≤◌, ◌<◌, false, length, drop, slice_index, slice_index_or, take};
-ghost use Rattle.std.specs.Prelude.{IfSome, IsAscii};
-ghost use Rattle.lic_kind.specs.Kinds.{is_word_kind, kind_of};
+ghost use Rattle.std.specs.Prelude.{IfSome};
+ghost use Rattle.lic_columns.specs.Bytes.{is_word};
+ghost use Rattle.lic_columns.specs.PlainLines.{HasWords};
 ghost use Rattle.lic_phrases.specs.Settling.{IsLeft, nothing_kept};
 ghost use Rattle.lic_phrases.specs.Spelling.{blank_if, spelled};
 ghost use Rattle.lic_norm.specs.Batches.{AreInBatch};
@@ -12,7 +13,7 @@ ghost use Rattle.lic_norm.specs.Stretches.{begins_sign};
 use crate::rewriting::Rewriting;
 use crate::rewriting::stretch::Stretch;
 use crate::rewriting::token_list::Entry;
-use lic_kind::is_word;
+use crate::rewriting::word_bytes::is_word_byte;
 use lic_phrases::{Phrases, Rewriter, ends_in_word};
 
 /// So many letters are copied at once.
@@ -73,22 +74,22 @@ fn put(bytes: &mut [u8; BYTES], place: usize, blank: bool, letters: &[u8], len: 
     start + len
 }
 
-/// Whether this letter of a text of ASCII is one of words.
+/// Whether this byte of a text is of a word: those beyond ASCII are.
 #[inline(always)]
 fn is_word_at(text: &str, i: usize) -> bool
     requires { i < length text.now }
-    ensures { result ≡ is_word_kind (kind_of (slice_index text.now i)) }
+    ensures { result ≡ is_word (slice_index text.now i) }
 {
-    is_word(text.as_bytes()[i] as char)
+    is_word_byte(text.as_bytes()[i])
 }
 
-/// The text of the token number `i` of lines of ASCII, if it is plain: no copyright sign begins there, and where the rewriter keeps
+/// The text of the token number `i` of lines, if it is plain: no copyright sign begins there, and where the rewriter keeps
 /// none back, it leaves the token as it is. Mostly the first letter and the length say so.
 #[inline(always)]
 pub(crate) fn plain_text<'a>(phrases: &Phrases, stretch: &Stretch<'a>, i: usize) -> Option<&'a str>
     requires { i < length stretch.now }
     ensures text { IfSome result (λ text. (d : _) → text.now ≡ (slice_index_or stretch.now i d).text) }
-    ensures ascii { IfSome result (λ text. IsAscii text.now) }
+    ensures words { IfSome result (λ text. HasWords text.now) }
     ensures no_sign { IfSome result (λ text. begins_sign (drop i stretch.now) ≡ false) }
     ensures left { IfSome result (λ text. IsLeft phrases.now.phrases text.now) }
 {
@@ -104,7 +105,7 @@ pub(crate) fn plain_text<'a>(phrases: &Phrases, stretch: &Stretch<'a>, i: usize)
 fn plain_after_look<'a>(phrases: &Phrases, stretch: &Stretch<'a>, i: usize) -> Option<&'a str>
     requires { i < length stretch.now }
     ensures text { IfSome result (λ text. (d : _) → text.now ≡ (slice_index_or stretch.now i d).text) }
-    ensures ascii { IfSome result (λ text. IsAscii text.now) }
+    ensures words { IfSome result (λ text. HasWords text.now) }
     ensures no_sign { IfSome result (λ text. begins_sign (drop i stretch.now) ≡ false) }
     ensures left { IfSome result (λ text. IsLeft phrases.now.phrases text.now) }
 {
@@ -115,7 +116,7 @@ fn plain_after_look<'a>(phrases: &Phrases, stretch: &Stretch<'a>, i: usize) -> O
     Some(text)
 }
 
-/// Spells tokens of lines of ASCII together, from the number `i` on, as long as each is plain and short.
+/// Spells tokens of lines together, from the number `i` on, as long as each is plain and short.
 #[inline(never)]
 pub(crate) fn spell(
     rewriting: &Rewriting<'_>,
@@ -217,7 +218,7 @@ fn put_token(
     requires short { length text.now ≤ COPIED }
     requires front { text.now ≡ take (length text.now) letters.now }
     requires wide { COPIED ≤ length letters.now }
-    requires ascii { IsAscii text.now }
+    requires words { HasWords text.now }
     requires no_sign { begins_sign (drop state.next stretch.now) ≡ false }
     requires left { IsLeft rewriting.now.phrases.now.phrases text.now }
     ensures next { result.next ≡ state.next + 1 }

@@ -1,5 +1,6 @@
-//! The first tokens of lines of ASCII, by the places where they begin and end.
-ghost use Rattle.std.specs.Prelude.{◌≡◌, ◌<◌, ◌&&◌, not, true, length, drop, take, slice_index, slice_index_or, codes, IsAscii};
+//! The first tokens of lines, by the places where they begin and end.
+ghost use Rattle.std.specs.Prelude.{◌≡◌, ◌<◌, ◌&&◌, not, true, length, drop, take, slice_index, slice_index_or, codes};
+ghost use Rattle.lic_columns.specs.PlainLines.{HasWords};
 ghost use Rattle.lic_columns.specs.SpanTokens.{span_tokens, spans_by, token_text};
 ghost use Rattle.lic_lines.specs.Tokens.{is_text};
 ghost use Rattle.lic_norm.specs.Stretches.{AreTokenPlaces, begins_sign};
@@ -7,7 +8,7 @@ ghost use Rattle.lic_norm.specs.Stretches.{AreTokenPlaces, begins_sign};
 use lic_columns::Lines;
 use std::marker::Model;
 
-/// The first tokens of lines of ASCII that begin at a byte of the input.
+/// The first tokens of lines that begin at a byte of the input.
 #[derive(Drop)]
 pub(crate) struct Stretch<'a> {
     at: u32,
@@ -37,9 +38,9 @@ impl<'a> Model for Stretch<'a> {
 #[inline(always)]
 fn token_text(letters: &str) -> &str
     requires some { 0 < length letters.now }
-    requires ascii { IsAscii letters.now }
+    requires words { HasWords letters.now }
     ensures text { result.now ≡ token_text letters.now }
-    ensures ascii { IsAscii result.now }
+    ensures words { HasWords result.now }
 {
     match letters.as_bytes()[0] {
         b'\'' | b'-' => &letters[..1],
@@ -90,7 +91,7 @@ impl<'a> Stretch<'a> {
         requires { i < length self.now }
         ensures text { (d : _) → token_text result.now ≡ (slice_index_or self.now i d).text }
         ensures some { 0 < length result.now }
-        ensures ascii { IsAscii result.now }
+        ensures words { HasWords result.now }
     {
         let start = place(self.starts, i);
         let end = place(self.ends, i);
@@ -104,7 +105,7 @@ impl<'a> Stretch<'a> {
     pub(crate) fn text(&self, i: usize) -> &'a str
         requires { i < length self.now }
         ensures text { (d : _) → result.now ≡ (slice_index_or self.now i d).text }
-        ensures ascii { IsAscii result.now }
+        ensures words { HasWords result.now }
     {
         token_text(self.letters_of(i))
     }
@@ -115,7 +116,6 @@ impl<'a> Stretch<'a> {
         requires { i < length self.now }
         ensures front { (d : _) → (slice_index_or self.now i d).text
             ≡ take (length (slice_index_or self.now i d).text) result.now }
-        ensures ascii { IsAscii result.now }
     {
         let start = place(self.starts, i);
         let from = (start - self.at) as usize;
@@ -155,7 +155,7 @@ impl<'a> Stretch<'a> {
     }
 
     /// Whether it has this text, and no blank comes before it.
-    fn goes_on(&self, i: usize, text: &str) -> bool
+    fn continues(&self, i: usize, text: &str) -> bool
         requires { i < length self.now }
         ensures { (d : _) → result
             ≡ (is_text text.now (slice_index_or self.now i d)
@@ -174,7 +174,7 @@ impl<'a> Stretch<'a> {
         if self.len() - i < 3 {
             return false;
         }
-        self.goes_on(i + 1, "c") && self.goes_on(i + 2, ")")
+        self.continues(i + 1, "c") && self.continues(i + 2, ")")
     }
 
     /// Whether the token number `i`, which has this text, the next and the one after that are a copyright sign.

@@ -1,5 +1,5 @@
 //! Tokens as they are kept.
-ghost use Rattle.std.specs.Prelude.{◌≡◌, ◌<◌, ◌++◌, ◌∷◌, [], All, IsAscii, IsUtf8, length, map, slice_index_or, take, IfOk, List, OnOk};
+ghost use Rattle.std.specs.Prelude.{◌≡◌, ◌<◌, ◌++◌, ◌∷◌, [], All, IsUtf8, length, map, slice_index_or, take, IfOk, List, OnOk};
 ghost use Rattle.std.specs.String.{string_bytes};
 ghost use Rattle.lic_phrases.specs.Spelling.{blank_if, is_parted, spelled};
 ghost use Rattle.lic_phrases.specs.TokenTexts.{IsTokenText};
@@ -85,10 +85,9 @@ fn utf8_text(bytes: &[u8]) -> &str
 #[inline(always)]
 fn copy_text(spelling: &mut String, text: &str, letters: &str) -> Result<(), AllocError>
     requires front { text.now ≡ take (length text.now) letters.now }
-    requires ascii { IsAscii letters.now }
     ensures { OnOk result (string_bytes spelling.new ≡ string_bytes spelling.old ++ text.now) }
 {
-    if text.len() > COPIED || letters.len() < COPIED {
+    if text.len() > COPIED || !letters.is_char_boundary(COPIED) {
         return spelling.push_str(text);
     }
     let end = spelling.len() + text.len();
@@ -109,7 +108,6 @@ fn add_front(
     end: u32,
 ) -> Result<(), AllocError>
     requires front { text.now ≡ take (length text.now) letters.now }
-    requires ascii { IsAscii letters.now }
     ensures bytes { OnOk result (string_bytes spelling.new ≡ string_bytes spelling.old ++ (blank_if blank ++ text.now)) }
     ensures entry { OnOk result (entries.new.items ≡ entries.old.items ++ (record {
       text_end = length (string_bytes spelling.new);
@@ -157,6 +155,14 @@ impl TokenList {
             spelling: String::with_capacity(alloc, bytes)?,
             entries: Vec::with_capacity(alloc, tokens)?,
         })
+    }
+
+    /// Takes all tokens away, and keeps their memory.
+    pub(crate) fn clear(&mut self)
+        ensures { self.new ≡ [] }
+    {
+        self.spelling.clear();
+        self.entries.clear();
     }
 
     /// Makes room for so many tokens more, whose texts have so many bytes.
@@ -211,7 +217,6 @@ impl TokenList {
     ) -> Result<(), AllocError>
         requires text { IsTokenText text.now }
         requires front { text.now ≡ take (length text.now) letters.now }
-        requires ascii { IsAscii letters.now }
         ensures { OnOk result (self.new
             ≡ self.old ++ (record {
               text = text.now;

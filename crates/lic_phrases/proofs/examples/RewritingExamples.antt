@@ -65,8 +65,8 @@ a_or_more = phrase (codes "a" ∷ []) (codes "one") ∷ phrase (codes "a" ∷ co
 the_longest_phrase_wins : shown (rewritten a_or_more (letters 0 (codes "aab"))) ≡ (codes "three", 0, 5) ∷ []
 the_longest_phrase_wins = refl
 
-the_work_goes_on_behind_a_phrase : shown (rewritten a_or_more (letters 0 (codes "aaab"))) ≡ (codes "two", 0, 3) ∷ (codes "one", 4, 5) ∷ (codes "b", 6, 7) ∷ []
-the_work_goes_on_behind_a_phrase = refl
+the_work_continues_after_a_phrase : shown (rewritten a_or_more (letters 0 (codes "aaab"))) ≡ (codes "two", 0, 3) ∷ (codes "one", 4, 5) ∷ (codes "b", 6, 7) ∷ []
+the_work_continues_after_a_phrase = refl
 
 a_phrase_that_breaks_off : shown (rewritten (phrase (codes "a" ∷ codes "b" ∷ codes "c" ∷ []) (codes "x") ∷ []) (letters 0 (codes "ababc"))) ≡ (codes "a", 0, 1) ∷ (codes "b", 2, 3) ∷ (codes "x", 4, 9) ∷ []
 a_phrase_that_breaks_off = refl

@@ -29,9 +29,9 @@ nothing_before_a_comma : first_fault (codes "a b,a b c,b c\n,a-b\npercent,sublic
 unfolding spell kind_of caseless encode_utf8 chars is_utf8
 nothing_before_a_comma = refl
 
-nothing_behind_a_comma : first_fault (codes "sub license,colour\nb c,colour,\nsub license,a-b\nsub-license,colour\n") ≡ Some (record { line = 2; cause = EmptyPhrase })
+nothing_after_a_comma : first_fault (codes "sub license,colour\nb c,colour,\nsub license,a-b\nsub-license,colour\n") ≡ Some (record { line = 2; cause = EmptyPhrase })
 unfolding spell kind_of caseless encode_utf8 chars is_utf8
-nothing_behind_a_comma = refl
+nothing_after_a_comma = refl
 
 nothing_between_commas : first_fault (codes "sub license\nb c,a b c\nsublicense,a b c,a b c\na b c,,a-b") ≡ Some (record { line = 4; cause = EmptyPhrase })
 unfolding spell kind_of caseless encode_utf8 chars is_utf8
@@ -49,9 +49,9 @@ line_of_dropped_characters_first : words_computed (phrase_lines (encode_utf8_all
 unfolding spell kind_of caseless encode_utf8 chars is_utf8
 line_of_dropped_characters_first = refl
 
-comment_behind_a_dropped_character : words_computed (phrase_lines (codes "sublicense,foo bar\ncolor,color,a b\n" ++ encode_utf8_all (0xAD ∷ []) ++ codes "#x\nfoo - bar,b c\npercent,color\n")) ≡ (written (codes "sublicense" ∷ []) (codes "sublicense") ∷ written (codes "foo" ∷ codes "bar" ∷ []) (codes "sublicense") ∷ written (codes "color" ∷ []) (codes "color") ∷ written (codes "a" ∷ codes "b" ∷ []) (codes "color") ∷ written (codes "foo" ∷ codes "-" ∷ codes "bar" ∷ []) (codes "foo-bar") ∷ written (codes "b" ∷ codes "c" ∷ []) (codes "foo-bar") ∷ written (codes "percent" ∷ []) (codes "color") ∷ [])
+comment_after_a_dropped_character : words_computed (phrase_lines (codes "sublicense,foo bar\ncolor,color,a b\n" ++ encode_utf8_all (0xAD ∷ []) ++ codes "#x\nfoo - bar,b c\npercent,color\n")) ≡ (written (codes "sublicense" ∷ []) (codes "sublicense") ∷ written (codes "foo" ∷ codes "bar" ∷ []) (codes "sublicense") ∷ written (codes "color" ∷ []) (codes "color") ∷ written (codes "a" ∷ codes "b" ∷ []) (codes "color") ∷ written (codes "foo" ∷ codes "-" ∷ codes "bar" ∷ []) (codes "foo-bar") ∷ written (codes "b" ∷ codes "c" ∷ []) (codes "foo-bar") ∷ written (codes "percent" ∷ []) (codes "color") ∷ [])
 unfolding spell kind_of caseless encode_utf8 chars is_utf8
-comment_behind_a_dropped_character = refl
+comment_after_a_dropped_character = refl
 
 unbroken_dashes_alone_are_one : words_computed (phrase_lines (codes "-- -,sublicense\nb c,sublicense\nsub license,sub-license\na b\nSS\n")) ≡ (written (codes "-" ∷ codes "-" ∷ []) (codes "--") ∷ written (codes "sublicense" ∷ []) (codes "--") ∷ written (codes "b" ∷ codes "c" ∷ []) (codes "--") ∷ written (codes "sub" ∷ codes "license" ∷ []) (codes "sub license") ∷ written (codes "sub" ∷ codes "-" ∷ codes "license" ∷ []) (codes "sub license") ∷ written (codes "a" ∷ codes "b" ∷ []) (codes "a b") ∷ written (codes "ss" ∷ []) (codes "ss") ∷ [])
 unfolding spell kind_of caseless encode_utf8 chars is_utf8
@@ -113,9 +113,9 @@ eight_phrases : words_computed (phrase_lines (codes "a b c,foo bar\nSS\na-b,sub-
 unfolding spell kind_of caseless encode_utf8 chars is_utf8
 eight_phrases = refl
 
-comment_behind_a_blank : words_computed (phrase_lines (codes " # a,b\na-b,colour\nsublicense,a b c,b c\n")) ≡ (written (codes "a" ∷ codes "-" ∷ codes "b" ∷ []) (codes "a-b") ∷ written (codes "colour" ∷ []) (codes "a-b") ∷ written (codes "sublicense" ∷ []) (codes "sublicense") ∷ written (codes "a" ∷ codes "b" ∷ codes "c" ∷ []) (codes "sublicense") ∷ written (codes "b" ∷ codes "c" ∷ []) (codes "sublicense") ∷ [])
+comment_after_a_blank : words_computed (phrase_lines (codes " # a,b\na-b,colour\nsublicense,a b c,b c\n")) ≡ (written (codes "a" ∷ codes "-" ∷ codes "b" ∷ []) (codes "a-b") ∷ written (codes "colour" ∷ []) (codes "a-b") ∷ written (codes "sublicense" ∷ []) (codes "sublicense") ∷ written (codes "a" ∷ codes "b" ∷ codes "c" ∷ []) (codes "sublicense") ∷ written (codes "b" ∷ codes "c" ∷ []) (codes "sublicense") ∷ [])
 unfolding spell kind_of caseless encode_utf8 chars is_utf8
-comment_behind_a_blank = refl
+comment_after_a_blank = refl
 
 sharp_s_and_number_sign : words_computed (phrase_lines (encode_utf8_all (0xDF ∷ []) ++ codes ",#\ncolour\ncolour,colour,sub license\nfoo bar\n")) ≡ (written (codes "ss" ∷ []) (codes "ss") ∷ written (codes "#" ∷ []) (codes "ss") ∷ written (codes "colour" ∷ []) (codes "colour") ∷ written (codes "sub" ∷ codes "license" ∷ []) (codes "colour") ∷ written (codes "foo" ∷ codes "bar" ∷ []) (codes "foo bar") ∷ [])
 unfolding spell kind_of caseless encode_utf8 chars is_utf8

@@ -34,11 +34,11 @@ fn begins_authority(tokens: &VecDeque<FirstToken>) -> bool
 }
 
 /// Makes `http` of `https` if the tokens after it begin with `:`, `/` and `/`.
-fn drop_secure(token: &mut FirstToken, behind: &VecDeque<FirstToken>)
+fn drop_secure(token: &mut FirstToken, past: &VecDeque<FirstToken>)
     ensures { token_in token.new
-        ≡ without_secure (token_in token.old) (tokens_in behind.now.items) }
+        ≡ without_secure (token_in token.old) (tokens_in past.now.items) }
 {
-    if is_https(token) && begins_authority(behind) {
+    if is_https(token) && begins_authority(past) {
         token.text = SmallString::short("http");
     }
 }

@@ -1,6 +1,6 @@
 use Rattle.std.proofs.Common.{◌≡◌, ◌≤◌, ◌-◌, None, arith, sym, ap, ◌∙◌, subst}
 use Rattle.lic_marks.specs.Cores.{plus, WordsOf}
-use Rattle.lic_marks.specs.Nodes.{core_of, so_many}
+use Rattle.lic_marks.specs.Nodes.{core_of, times_over}
 use Rattle.lic_marks.specs.declared.node.Times.TheVariants.{Unbounded}
 use Rattle.lic_marks.proofs.Nodes.{core_of-One}
 use Rattle.lic_auto.specs.Compiling.{AreSame, Repeats}
@@ -38,5 +38,5 @@ pub returns-in_ok-new-in_default : goal.returns-in_ok-new-in_default
 returns-in_ok-new-in_default c =
     let some : 1 ≤ c.args.min = omega arith in
     let built = rw c.in_ok-new-in_default.ensures.ok at c.repeat.ensures.built in
-    rw c.ok_or.ensures.value (node_told c.repeat.result _ (so_many (Unbounded (c.args.min - 1)) (core_of c.args.body)) _
+    rw c.ok_or.ensures.value (node_told c.repeat.result _ (times_over (Unbounded (c.args.min - 1)) (core_of c.args.body)) _
     (unbounded_words (core_of c.args.body) c.args.min some) built)

@@ -18,15 +18,15 @@ loop-rest-preserved c =
     let second = c.put_lowest-rest-in-loop-rest in
     let third = c.put_lowest-rest-in-loop-rest-2 in
     let last = c.put_lowest-rest-in-loop-rest-3 in
-    let room = c.requires.inside in
+    let bounded = c.requires.inside in
     let one = one_written at mask n i c.loop-rest.rest (n + i) first.result old c.loop-rest.out first.new.out is.3 c.requires.fits refl
-    (omega (arith, room, four, is.2)) first.ensures.out first.ensures.mask in
+    (omega (arith, bounded, four, is.2)) first.ensures.out first.ensures.mask in
     let two = one_written at mask n (i + 1) first.result (n + i + 1) second.result old first.new.out second.new.out one c.requires.fits (omega arith)
-    (omega (arith, room, four, one.put.size)) second.ensures.out second.ensures.mask in
+    (omega (arith, bounded, four, one.put.size)) second.ensures.out second.ensures.mask in
     let three = one_written at mask n (i + 1 + 1) second.result (n + i + 2) third.result old second.new.out third.new.out two c.requires.fits (omega arith)
-    (omega (arith, room, four, two.put.size)) third.ensures.out third.ensures.mask in
+    (omega (arith, bounded, four, two.put.size)) third.ensures.out third.ensures.mask in
     let all = one_written at mask n (i + 1 + 1 + 1) third.result (n + i + 3) last.result old third.new.out last.new.out three c.requires.fits (omega arith)
-    (omega (arith, room, four, three.put.size)) last.ensures.out last.ensures.mask in
+    (omega (arith, bounded, four, three.put.size)) last.ensures.out last.ensures.mask in
     let next : i + 1 + 1 + 1 + 1 ≡ i + 4 = omega arith in
     let written : IsWritten at mask n (i + 4) last.result old last.new.out = subst (λ (m : ℕ). IsWritten at mask n m last.result old last.new.out) next all in
     let fours : (i + 4) % 4 ≡ 0 = omega (arith, is.1) in

@@ -37,14 +37,14 @@ loop-k-preserved c =
     let next : IsColumn c.column-after.result words (k + 1) = record { bit = c.column-after.ensures } in
     let first = c.first_places.ensures words kept joined k is.cells is.before is.word is.kept is.joined in
     let last = c.last_places.ensures words kept joined k is.cells is.word next is.kept is.joined c.next-next.ensures.joined in
-    let room : k * 64 ≤ length cells = omega (arith, length-cells words kept joined is.cells, c.count-k-end.ensures, c.loop-k-test.true) in
+    let bounded : k * 64 ≤ length cells = omega (arith, length-cells words kept joined is.cells, c.count-k-end.ensures, c.loop-k-test.true) in
     let here : at + k * 64 + 1 ≡ suc at + k * 64 = omega arith in
     let start : c.put.new.self ≡ c.loop-k.starts ++ places (at + k * 64) (bits_of 64 c.first_places.result) = search rules in
     let end : c.put-in-loop-k.new.self ≡ c.loop-k.ends ++ places (at + k * 64 + 1) (bits_of 64 c.last_places.result) = search rules in
     record {
       cells = is.cells;
-      starts = one_column_more _ _ at k (at + k * 64) c.first_places.result (firsts Blank cells) is.starts refl start (omega (arith, room, length-firsts Blank cells)) first;
-      ends = one_column_more _ _ (suc at) k (at + k * 64 + 1) c.last_places.result (lasts cells) is.ends here end (omega (arith, room, length-lasts cells)) last;
+      starts = one_column_more _ _ at k (at + k * 64) c.first_places.result (firsts Blank cells) is.starts refl start (omega (arith, bounded, length-firsts Blank cells)) first;
+      ends = one_column_more _ _ (suc at) k (at + k * 64 + 1) c.last_places.result (lasts cells) is.ends here end (omega (arith, bounded, length-lasts cells)) last;
       carried = c.next-next.ensures.carried;
       before = ends_before c.loop-k.word k words is.word;
       word = next;

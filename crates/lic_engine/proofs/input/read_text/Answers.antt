@@ -1,8 +1,15 @@
-use Rattle.std.proofs.Common.{rules}
+use Rattle.std.proofs.Common.{rules, ◌≡◌, ℕ, Result, Ok, Err}
+use Rattle.std.specs.Result.{IsErr, IsErrAnd}
+use Rattle.lic_engine.specs.Failures.{CountsReads}
+use Rattle.lic_engine.specs.declared.fault.RunFault.{RunFault}
 use Rattle.lic_engine.proofs.input.read_text.Goals as goal
+
+-- a fault that is handed on counts the same reads
+handed_on : {A B : Type 0} (fault : RunFault) (result : Result B RunFault) (old new : ℕ) → IsErr result → IsErrAnd result (λ f. f ≡ fault)
+    → CountsReads {A = A} (Err fault) old new → CountsReads result old new
+handed_on fault (Ok x) old new is same reads = absurd (cc)
+handed_on fault (Err f) old new is same reads = search (rules, same, reads)
 
 pub returns-in_err-feed_all-clause-reads : goal.returns-in_err-feed_all-clause-reads
 returns-in_err-feed_all-clause-reads g c =
-    let same = c.from_residual.ensures in
-    let reads = c.in_err-feed_all.ensures.reads in
-    search (rules, same, reads)
+    handed_on c.in_err-feed_all.field-0.0 c.from_residual.result _ _ c.from_residual.ensures.0 c.from_residual.ensures.1 c.in_err-feed_all.ensures.reads

@@ -83,11 +83,11 @@ loop-first-preserved c =
       numbers = same_numbers;
       taken = taken;
       firsts =
-          let behind : AreFirstsFrom set tokens kept (first + 1) (starts_in c.loop-first.starts) =
+          let past : AreFirstsFrom set tokens kept (first + 1) (starts_in c.loop-first.starts) =
           subst (λ n. AreFirstsFrom set tokens kept n (starts_in c.loop-first.starts)) (sym next) inv.firsts in
           AreFirstsFrom-pass set tokens kept first (starts_in c.loop-first.starts)
           (none_live set tokens kept first inside live exactly
-          (empty live (eqb-true (length live) 0 (sym c.is_empty.ensures ∙ c.if-not-is_empty.false)))) behind;
+          (empty live (eqb-true (length live) 0 (sym c.is_empty.ensures ∙ c.if-not-is_empty.false)))) past;
       memory = HasAtMost-more c.loop-first.starts (length tokens - end) (length tokens - first) (omega arith) inv.memory;
       most = omega arith;
       least = λ bounded.
@@ -135,11 +135,11 @@ loop-first-preserved-in-Continue-branch-2 c =
       numbers = same_numbers;
       taken = taken;
       firsts =
-          let behind : AreFirstsFrom set tokens kept (first + 1) (starts_in c.loop-first.starts) =
+          let past : AreFirstsFrom set tokens kept (first + 1) (starts_in c.loop-first.starts) =
           subst (λ n. AreFirstsFrom set tokens kept n (starts_in c.loop-first.starts)) (sym next) inv.firsts in
           let (k, there) = some_of live (λ none. false≢true (sym c.if-not-is_empty.true ∙ c.is_empty.ensures ∙ eq-eqb (length live) 0 none)) in
           subst (AreFirstsFrom set tokens kept first) (sym c.in_ok-add.ensures.noted)
-          (IsFirstFrom-live set tokens kept first inside live exactly k there, behind);
+          (IsFirstFrom-live set tokens kept first inside live exactly k there, past);
       memory = let more : length tokens - end + 1 ≡ length tokens - first = omega arith in
           subst (HasAtMost c.add.new.self) more (c.in_ok-add.ensures.memory (length tokens - end) inv.memory);
       most = omega arith;

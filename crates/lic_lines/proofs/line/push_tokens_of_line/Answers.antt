@@ -1,11 +1,11 @@
 use Rattle.std.proofs.Common.{◌≡◌, ◌∙◌, ◌++◌, ap, ap₂, take, drop, length, arith}
 use Rattle.lic_lines.specs.Tokens.{single_signs, tokens_in}
-use Rattle.lic_lines.proofs.TokenLemmas.{tokens_behind, take_old, drop_old}
+use Rattle.lic_lines.proofs.TokenLemmas.{tokens_past, take_old, drop_old}
 use Rattle.lic_lines.proofs.line.push_tokens_of_line.Goals as goal
 
 pub join_single_signs-requires : goal.join_single_signs-requires
 join_single_signs-requires c =
-    omega (arith, c.len-from.ensures, c.args.out.now.ok.0, tokens_behind c.args.out.now.items c.push_text.new.out.items _ c.in_ok-push_text.ensures)
+    omega (arith, c.len-from.ensures, c.args.out.now.ok.0, tokens_past c.args.out.now.items c.push_text.new.out.items _ c.in_ok-push_text.ensures)
 
 pub returns : goal.returns
 returns c =

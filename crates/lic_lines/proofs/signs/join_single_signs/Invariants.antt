@@ -5,7 +5,7 @@ use Rattle.lic_lines.proofs.signs.join_single_signs.Given as goal
 -- the tokens that are kept so far, and those of what is left
 abbrev pub invariant-loop-at : goal.invariant-loop-at
 invariant-loop-at l = record {
-  behind : l.kept ≤ l.at;
+  past : l.kept ≤ l.at;
   within : l.at ≤ length l.tokens.items;
   told : tokens_in (take l.kept l.tokens.items) ++ single_signs (tokens_in (drop l.at l.tokens.items))
       ≡ tokens_in (take l.fn.from l.fn.tokens.items) ++ single_signs (tokens_in (drop l.fn.from l.fn.tokens.items));

@@ -1,7 +1,7 @@
 use Rattle.std.proofs.Common.{◌≡◌, ◌∙◌, ◌++◌, ◌+◌, ◌<◌, true, false, sym, ap, take, drop, set, get_or, length, arith}
 use Rattle.std.proofs.lemmas.List.{get_or_read, get_or_default}
 use Rattle.lic_lines.specs.Tokens.{is_sign_in_parentheses, sign_from, as_sign, single_signs, token_in, tokens_in}
-use Rattle.lic_lines.proofs.TokenLemmas.{swap_kept, swap_behind, sign_step, single_step}
+use Rattle.lic_lines.proofs.TokenLemmas.{swap_kept, swap_after, sign_step, single_step}
 use Rattle.lic_lines.proofs.signs.settle.Goals as goal
 use Rattle.lic_lines.proofs.signs.settle.Goals.{else-tokens-at-gt2-via-then-tokens-at-gt2+else-is_sign_in_parentheses, else-tokens-at-gt2-via-else-tokens-at-gt2}
 
@@ -18,13 +18,13 @@ returns-then-is_sign_in_parentheses-clause-settled c =
     let first = c.index-tokens-kept.is ∙ ap (λ l. get_or l kept d) c.swap.ensures.after ∙ swap_kept xs kept at order within d in
     let second = get_or_read moved (at + 1) c.index-tokens-at.result (omega arith) c.index-tokens-at.is d
     ∙ ap (λ l. get_or l (at + 1) d) c.swap.ensures.after
-    ∙ swap_behind xs kept at order within d (at + 1) (omega arith) in
+    ∙ swap_after xs kept at order within d (at + 1) (omega arith) in
     let third = get_or_read moved (at + 2) c.index-tokens-at-then-tokens-at-gt2.result
     (omega arith) c.index-tokens-at-then-tokens-at-gt2.is d ∙ ap (λ l. get_or l (at + 2) d) c.swap.ensures.after
-    ∙ swap_behind xs kept at order within d (at + 2) (omega arith) in
+    ∙ swap_after xs kept at order within d (at + 2) (omega arith) in
     let ends = get_or_default moved (at + 2) c.index-tokens-at-then-is_sign_in_parentheses.result d (omega arith)
     ∙ ap (λ l. get_or l (at + 2) d) c.swap.ensures.after
-    ∙ swap_behind xs kept at order within d (at + 2) (omega arith) in
+    ∙ swap_after xs kept at order within d (at + 2) (omega arith) in
     let begins = get_or_default moved kept c.index-tokens-kept-then-is_sign_in_parentheses.result d (omega arith)
     ∙ ap (λ l. get_or l kept d) c.swap.ensures.after ∙ swap_kept xs kept at order within d in
     let sign : is_sign_in_parentheses (token_in (get_or xs at d)) (token_in (get_or xs (at + 1) d)) (token_in (get_or xs (at + 2) d)) ≡ true =
@@ -55,11 +55,11 @@ returns-else-tokens-at-gt2-clause-settled c =
           ∙ ap (λ l. get_or l kept d) c.swap.ensures.after ∙ swap_kept xs kept at order within d in
           let second = get_or_read moved (at + 1) w.index-tokens-at.result (omega arith) w.index-tokens-at.is d
           ∙ ap (λ l. get_or l (at + 1) d) c.swap.ensures.after
-          ∙ swap_behind xs kept at order within d (at + 1) (omega arith) in
+          ∙ swap_after xs kept at order within d (at + 1) (omega arith) in
           let third = get_or_read moved (at + 2) w.index-tokens-at-then-tokens-at-gt2.result
           (omega arith) w.index-tokens-at-then-tokens-at-gt2.is d
           ∙ ap (λ l. get_or l (at + 2) d) c.swap.ensures.after
-          ∙ swap_behind xs kept at order within d (at + 2) (omega arith) in
+          ∙ swap_after xs kept at order within d (at + 2) (omega arith) in
           sym ((λ i. is_sign_in_parentheses (token_in (first i)) (token_in (second i)) (token_in (third i))))
           ∙ sym w.is_sign_in_parentheses.ensures ∙ w.if-is_sign_in_parentheses.false)
       | else-tokens-at-gt2-via-else-tokens-at-gt2 w ↦ absurd (omega arith)

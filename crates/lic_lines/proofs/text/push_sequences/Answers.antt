@@ -7,14 +7,14 @@ use Rattle.lic_lines.proofs.TokenLemmas.{no_tokens_after}
 use Rattle.lic_lines.proofs.text.push_sequences.Goals as goal
 
 -- one sequence more: its tokens, and those of what is left after it
-sequence_more : (rules : LineRules) (text : List SourceChar) (n m : ℕ) (before behind : Bool) (old new whole : List Token)
-    → new ++ tokens_after rules behind (drop m (take (length text - n) (drop n text)))
+sequence_more : (rules : LineRules) (text : List SourceChar) (n m : ℕ) (before past : Bool) (old new whole : List Token)
+    → new ++ tokens_after rules past (drop m (take (length text - n) (drop n text)))
     ≡ old ++ tokens_after rules before (take (length text - n) (drop n text))
     → old ++ tokens_after rules before (drop n text) ≡ whole
-    → new ++ tokens_after rules behind (drop (n + m) text) ≡ whole
-sequence_more rules text n m before behind old new whole sequence told =
-    ap (λ l. new ++ tokens_after rules behind l) (sym (drop-drop m n text))
-    ∙ subst (λ l. new ++ tokens_after rules behind (drop m l) ≡ old ++ tokens_after rules before l) (take_rest text n) sequence
+    → new ++ tokens_after rules past (drop (n + m) text) ≡ whole
+sequence_more rules text n m before past old new whole sequence told =
+    ap (λ l. new ++ tokens_after rules past l) (sym (drop-drop m n text))
+    ∙ subst (λ l. new ++ tokens_after rules past (drop m l) ≡ old ++ tokens_after rules before l) (take_rest text n) sequence
     ∙ told
 
 pub loop-length-preserved : goal.loop-length-preserved

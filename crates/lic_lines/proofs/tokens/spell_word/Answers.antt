@@ -22,7 +22,7 @@ loop-count-preserved c =
       within = omega arith;
       words = λ i d lt. ⊎_elim
           (λ before. known.words i d before)
-          (λ behind. let same : i ≡ n = omega arith in
+          (λ past. let same : i ≡ n = omega arith in
           ap (λ k. kind_of (get_or text k d).char) same
           ∙ ap (λ s. kind_of s.char) (get_or_default text n d none inside) ∙ word)
           (cases_lt i n);

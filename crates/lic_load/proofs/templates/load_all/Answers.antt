@@ -35,7 +35,7 @@ returns-in-Ok-build g c =
           (All-map P pair_known c.loop-id.templates.items c.loop-id.invariant.read);
       loaded = record {
         read = pairs_known c.loop-id.templates.items;
-        are_read = are_read c.args.listing c.loop-id.yielded (pairs_known c.loop-id.templates.items) all.0 c.tell_unnamed.ensures c.loop-id.invariant.gone_over;
+        are_read = are_read c.args.listing c.loop-id.yielded (pairs_known c.loop-id.templates.items) all.0 c.report_unnamed.ensures c.loop-id.invariant.gone_over;
         set_of = c.in-Ok-build.ensures.holds;
       };
       refused = tt;
@@ -47,7 +47,7 @@ returns-in-Err-build-clause-refused g c =
     let all = YieldsList-end (YieldsList-from_vec {s = c.into_iter-id-iterator.result} c.args.listing.ids.items given.0 (given.1 ∙ c.args.listing.ids.ok.0))
     c.loop-id.yielded c.loop-id.id-iterator c.loop-id.yielded_by c.next.result c.next.new.self c.in-None.is c.next.ensures.steps in (
       pairs_known c.loop-id.templates.items,
-      are_read c.args.listing c.loop-id.yielded (pairs_known c.loop-id.templates.items) all.0 c.tell_unnamed.ensures c.loop-id.invariant.gone_over,
+      are_read c.args.listing c.loop-id.yielded (pairs_known c.loop-id.templates.items) all.0 c.report_unnamed.ensures c.loop-id.invariant.gone_over,
       fault_of_set c.loop-id.templates.items c.in-Err-build.fault c.build.result c.in-Err-build.is c.build.ensures.many c.build.ensures.twice,
     )
 
@@ -57,23 +57,23 @@ loop-id-init g c = record {
   read = search rules;
   left_out = search rules;
   gone_over =
-      subst (λ pairs. AreGoneOver (rules_of c.args.rules.now) c.args.words.now (g.E.Sink.taken c.tell_unnamed.new.err) (g.E.Sink.failed c.tell_unnamed.new.err) []
-      (pairs_known pairs) (g.E.Sink.taken c.tell_unnamed.new.err) (g.E.Sink.failed c.tell_unnamed.new.err))
+      subst (λ pairs. AreGoneOver (rules_of c.args.rules.now) c.args.words.now (g.E.Sink.taken c.report_unnamed.new.err) (g.E.Sink.failed c.report_unnamed.new.err) []
+      (pairs_known pairs) (g.E.Sink.taken c.report_unnamed.new.err) (g.E.Sink.failed c.report_unnamed.new.err))
       (sym c.new-templates.ensures.items) nothing;
 }
 
 pub loop-id-preserved : goal.loop-id-preserved
 loop-id-preserved g c =
     let longer : length (c.loop-id.yielded ++ c.in-Some.id ∷ []) ≡ length c.loop-id.yielded + 1 = length-append _ _ in
-    let told = c.in_ok-tell_left_out-in-Err.ensures in
+    let told = c.in_ok-report_left_out-in-Err.ensures in
     record {
       within = omega (arith, longer, c.loop-id.invariant.within);
       read = c.loop-id.invariant.read;
       left_out = (λ refused. omega (arith, longer, c.loop-id.invariant.within), λ fewer. refl);
       gone_over =
           left_out_more c.loop-id.yielded (pairs_known c.loop-id.templates.items) c.in-Some.id told.0 c.loop-id.invariant.gone_over
-          (subst (λ id. IsReported (g.E.Sink.taken c.loop-id.err) (g.E.Sink.taken c.tell_left_out.new.err) (g.E.Sink.failed c.loop-id.err)
-          (g.E.Sink.failed c.tell_left_out.new.err) (line_of_template id told.0)) c.as_str-in-Err.ensures.value told.1);
+          (subst (λ id. IsReported (g.E.Sink.taken c.loop-id.err) (g.E.Sink.taken c.report_left_out.new.err) (g.E.Sink.failed c.loop-id.err)
+          (g.E.Sink.failed c.report_left_out.new.err) (line_of_template id told.0)) c.as_str-in-Err.ensures.value told.1);
     }
 
 pub loop-id-preserved-in-Continue-1 : goal.loop-id-preserved-in-Continue-1
@@ -91,7 +91,7 @@ loop-id-preserved-in-Continue-1 g c =
         λ fewer. c.loop-id.invariant.left_out.1 (omega (arith, grown, longer, fewer)),
       );
       gone_over =
-          subst (λ pairs. AreGoneOver (rules_of c.args.rules.now) c.args.words.now (g.E.Sink.taken c.tell_unnamed.new.err) (g.E.Sink.failed c.tell_unnamed.new.err)
+          subst (λ pairs. AreGoneOver (rules_of c.args.rules.now) c.args.words.now (g.E.Sink.taken c.report_unnamed.new.err) (g.E.Sink.failed c.report_unnamed.new.err)
           (map string_bytes (c.loop-id.yielded ++ c.in-Some.id ∷ [])) (pairs_known pairs) (g.E.Sink.taken c.loop-id.err) (g.E.Sink.failed c.loop-id.err))
           (sym c.in_ok-push-in-Ok.ensures.items)
           (read_more c.loop-id.yielded c.loop-id.templates.items c.in-Some.id c.in-Ok.template c.loop-id.invariant.gone_over c.in-Ok.ensures);

@@ -58,13 +58,13 @@ leaves-leaves_tidy-requires t c = (
 
 pub leaves-leaves_copies-requires : goal.leaves-leaves_copies-requires
 leaves-leaves_copies-requires t c =
-    let room = rw (c.in-Copies.is, core_of-Copies) at c.requires.within in
-    omega (arith, room, weight-copies (passes c.in-Copies.test) c.in-Copies.count)
+    let width = rw (c.in-Copies.is, core_of-Copies) at c.requires.within in
+    omega (arith, width, weight-copies (passes c.in-Copies.test) c.in-Copies.count)
 
 pub leaves-leaves_up_to-requires : goal.leaves-leaves_up_to-requires
 leaves-leaves_up_to-requires t c =
-    let room = rw (c.in-UpTo.is, core_of-UpTo) at c.requires.within in
-    omega (arith, room, weight-up_to (passes c.in-UpTo.test) c.in-UpTo.count)
+    let width = rw (c.in-UpTo.is, core_of-UpTo) at c.requires.within in
+    omega (arith, width, weight-up_to (passes c.in-UpTo.test) c.in-UpTo.count)
 
 pub leaves-returns-in-Copies : goal.leaves-returns-in-Copies
 leaves-returns-in-Copies t c = rw (c.in-Copies.is, core_of-Copies) (c.leaves_copies.ensures (passes c.in-Copies.test))
@@ -74,8 +74,8 @@ leaves-returns-in-UpTo t c = rw (c.in-UpTo.is, core_of-UpTo) (c.leaves_up_to.ens
 
 pub leaves-returns-in-One : goal.leaves-returns-in-One
 leaves-returns-in-One t c =
-    let room = rw (c.in-One.is, core_of-One) at c.requires.within in
-    rw (c.in-One.is, core_of-One) (Leaves-one _ _ _ _ _ _ false (omega (arith, room)) c.get.ensures)
+    let width = rw (c.in-One.is, core_of-One) at c.requires.within in
+    rw (c.in-One.is, core_of-One) (Leaves-one _ _ _ _ _ _ false (omega (arith, width)) c.get.ensures)
 
 pub leaves-returns-in-Plus : goal.leaves-returns-in-Plus
 leaves-returns-in-Plus t c = rw (c.in-Plus.is, core_of-Plus) (Leaves-plus _ _ _ _ _ _ (rw c.deref-in-Plus.ensures at c.leaves.ensures))
@@ -169,7 +169,7 @@ pub leaves_copies_of-overflow_add-place : goal.leaves_copies_of-overflow_add-pla
 leaves_copies_of-overflow_add-place t c =
     let more = copies_more (core_of c.args.child.now) c.args.count c.loop.counter c.loop-test.true in
     let rest = rw more at c.loop.invariant.rest in
-    omega (arith, rest, c.requires.within, c.weight-weight.ensures, c.len-room.ensures)
+    omega (arith, rest, c.requires.within, c.weight-weight.ensures, c.len-width.ensures)
 
 pub leaves_copies_of-loop-preserved : goal.leaves_copies_of-loop-preserved
 leaves_copies_of-loop-preserved t c =
@@ -198,23 +198,23 @@ leaves_copies_of-returns t c =
 
 pub leaves_repeat-overflow_mul-place : goal.leaves_repeat-overflow_mul-place
 leaves_repeat-overflow_mul-place t c =
-    let room = rw c.in-Bounded.is at c.requires.within in
-    rw c.weight.ensures (omega (arith, room, c.len-room.ensures, weight-copies_of (core_of c.args.child.now) c.in-Bounded.needed))
+    let width = rw c.in-Bounded.is at c.requires.within in
+    rw c.weight.ensures (omega (arith, width, c.len-width.ensures, weight-copies_of (core_of c.args.child.now) c.in-Bounded.needed))
 
 pub leaves_repeat-overflow_add-place : goal.leaves_repeat-overflow_add-place
 leaves_repeat-overflow_add-place t c =
-    let room = rw c.in-Bounded.is at c.requires.within in
-    rw c.weight.ensures (omega (arith, room, c.len-room.ensures, weight-copies_of (core_of c.args.child.now) c.in-Bounded.needed))
+    let width = rw c.in-Bounded.is at c.requires.within in
+    rw c.weight.ensures (omega (arith, width, c.len-width.ensures, weight-copies_of (core_of c.args.child.now) c.in-Bounded.needed))
 
 pub leaves_repeat-leaves_copies_of-out-requires : goal.leaves_repeat-leaves_copies_of-out-requires
 leaves_repeat-leaves_copies_of-out-requires t c =
     let next = place_past (core_of c.args.child.now) c.in-Bounded.needed c.args.at _ c.weight.ensures in
     let same = weight-same (core_of c.args.child.now) c.in-Bounded.more in
-    let room = rw c.in-Bounded.is at c.requires.within in (
+    let width = rw c.in-Bounded.is at c.requires.within in (
       search (rules, the_lemmas),
       (
         c.requires.measured,
-        rw next (omega (arith, room, same)),
+        rw next (omega (arith, width, same)),
       ),
     )
 
@@ -225,22 +225,22 @@ leaves_repeat-returns-in-Bounded t c =
 
 pub leaves_repeat-overflow_mul-place-in-Unbounded : goal.leaves_repeat-overflow_mul-place-in-Unbounded
 leaves_repeat-overflow_mul-place-in-Unbounded t c =
-    let room = rw c.in-Unbounded.is at c.requires.within in
-    rw c.weight-in-Unbounded.ensures (omega (arith, room, c.len-room.ensures, weight-copies_of (core_of c.args.child.now) c.in-Unbounded.before))
+    let width = rw c.in-Unbounded.is at c.requires.within in
+    rw c.weight-in-Unbounded.ensures (omega (arith, width, c.len-width.ensures, weight-copies_of (core_of c.args.child.now) c.in-Unbounded.before))
 
 pub leaves_repeat-overflow_add-place-in-Unbounded : goal.leaves_repeat-overflow_add-place-in-Unbounded
 leaves_repeat-overflow_add-place-in-Unbounded t c =
-    let room = rw c.in-Unbounded.is at c.requires.within in
-    rw c.weight-in-Unbounded.ensures (omega (arith, room, c.len-room.ensures, weight-copies_of (core_of c.args.child.now) c.in-Unbounded.before))
+    let width = rw c.in-Unbounded.is at c.requires.within in
+    rw c.weight-in-Unbounded.ensures (omega (arith, width, c.len-width.ensures, weight-copies_of (core_of c.args.child.now) c.in-Unbounded.before))
 
 pub leaves_repeat-leaves-requires : goal.leaves_repeat-leaves-requires
 leaves_repeat-leaves-requires t c =
     let next = place_past (core_of c.args.child.now) c.in-Unbounded.before c.args.at _ c.weight-in-Unbounded.ensures in
-    let room = rw c.in-Unbounded.is at c.requires.within in (
+    let width = rw c.in-Unbounded.is at c.requires.within in (
       search (rules, the_lemmas),
       (
         c.requires.measured,
-        rw next (omega (arith, room)),
+        rw next (omega (arith, width)),
       ),
     )
 

@@ -16,4 +16,4 @@ returns-else-is_empty c =
     (not_empty _ _ c.if-is_empty.false c.is_empty.ensures) (omega (arith, c.requires, weight-letters c.args.text.now)))
 
 pub overflow_add-at : goal.overflow_add-at
-overflow_add-at c = omega (arith, c.requires, c.len-room.ensures, weight-letters c.args.text.now)
+overflow_add-at c = omega (arith, c.requires, c.len-width.ensures, weight-letters c.args.text.now)

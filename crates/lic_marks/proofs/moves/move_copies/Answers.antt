@@ -3,7 +3,7 @@ use Rattle.lic_marks.proofs.Moving.{Moves-slid, Moves-cleared}
 use Rattle.lic_marks.proofs.moves.move_copies.Goals as goal
 
 pub overflow_add-end : goal.overflow_add-end
-overflow_add-end c = omega (arith, c.requires, c.len-room.ensures)
+overflow_add-end c = omega (arith, c.requires, c.len-width.ensures)
 
 pub returns-then-is_passed-clause-moves : goal.returns-then-is_passed-clause-moves
 returns-then-is_passed-clause-moves c =

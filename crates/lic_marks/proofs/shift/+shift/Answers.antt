@@ -57,8 +57,8 @@ shift-shift_tidy-requires t c = (
 
 pub shift-shift_copies-requires : goal.shift-shift_copies-requires
 shift-shift_copies-requires t c =
-    let room = rw (c.in-Copies.is, core_of-Copies) at c.requires.within in
-    omega (arith, room, weight-copies (passes c.in-Copies.test) c.in-Copies.count)
+    let width = rw (c.in-Copies.is, core_of-Copies) at c.requires.within in
+    omega (arith, width, weight-copies (passes c.in-Copies.test) c.in-Copies.count)
 
 pub shift-returns-in-Copies : goal.shift-returns-in-Copies
 shift-returns-in-Copies t c = record {
@@ -68,8 +68,8 @@ shift-returns-in-Copies t c = record {
 
 pub shift-shift_up_to-requires : goal.shift-shift_up_to-requires
 shift-shift_up_to-requires t c =
-    let room = rw (c.in-UpTo.is, core_of-UpTo) at c.requires.within in
-    omega (arith, room, weight-up_to (passes c.in-UpTo.test) c.in-UpTo.count)
+    let width = rw (c.in-UpTo.is, core_of-UpTo) at c.requires.within in
+    omega (arith, width, weight-up_to (passes c.in-UpTo.test) c.in-UpTo.count)
 
 pub shift-returns-in-UpTo : goal.shift-returns-in-UpTo
 shift-returns-in-UpTo t c = record {
@@ -79,9 +79,9 @@ shift-returns-in-UpTo t c = record {
 
 pub shift-returns-in-One : goal.shift-returns-in-One
 shift-returns-in-One t c =
-    let room = rw (c.in-One.is, core_of-One) at c.requires.within in
+    let width = rw (c.in-One.is, core_of-One) at c.requires.within in
     record {
-      shifts = rw (c.in-One.is, core_of-One) (Shifts-one _ _ _ _ _ _ _ _ false (omega (arith, room)) c.get-out.ensures
+      shifts = rw (c.in-One.is, core_of-One) (Shifts-one _ _ _ _ _ _ _ _ false (omega (arith, width)) c.get-out.ensures
           (c.put.ensures ∙ ap (λ b. set c.args.row.now c.args.at (c.args.entry && b)) c.passes-is_passed.ensures));
       len = ap length c.put.ensures ∙ length-set c.args.row.now c.args.at _;
     }
@@ -235,7 +235,7 @@ pub shift_copies_of-overflow_add-place : goal.shift_copies_of-overflow_add-place
 shift_copies_of-overflow_add-place t c =
     let more = copies_more (core_of c.args.child.now) c.args.count c.loop.counter c.loop-test.true in
     let rest = rw more at c.loop.invariant.rest in
-    omega (arith, rest, c.requires.within, c.weight-weight.ensures, c.len-room.ensures)
+    omega (arith, rest, c.requires.within, c.weight-weight.ensures, c.len-width.ensures)
 
 pub shift_copies_of-loop-preserved : goal.shift_copies_of-loop-preserved
 shift_copies_of-loop-preserved t c =
@@ -265,63 +265,63 @@ shift_copies_of-returns t c =
 
 pub shift_repeat-overflow_mul-place : goal.shift_repeat-overflow_mul-place
 shift_repeat-overflow_mul-place t c =
-    let room = rw c.in-Bounded.is at c.requires.within in
-    rw c.weight.ensures (omega (arith, room, c.len-room.ensures, weight-copies_of (core_of c.args.child.now) c.in-Bounded.needed))
+    let width = rw c.in-Bounded.is at c.requires.within in
+    rw c.weight.ensures (omega (arith, width, c.len-width.ensures, weight-copies_of (core_of c.args.child.now) c.in-Bounded.needed))
 
 pub shift_repeat-overflow_add-place : goal.shift_repeat-overflow_add-place
 shift_repeat-overflow_add-place t c =
-    let room = rw c.in-Bounded.is at c.requires.within in
-    rw c.weight.ensures (omega (arith, room, c.len-room.ensures, weight-copies_of (core_of c.args.child.now) c.in-Bounded.needed))
+    let width = rw c.in-Bounded.is at c.requires.within in
+    rw c.weight.ensures (omega (arith, width, c.len-width.ensures, weight-copies_of (core_of c.args.child.now) c.in-Bounded.needed))
 
 pub shift_repeat-shift_copies_of-out-requires : goal.shift_repeat-shift_copies_of-out-requires
 shift_repeat-shift_copies_of-out-requires t c =
     let next = place_past (core_of c.args.child.now) c.in-Bounded.needed c.args.at _ c.weight.ensures in
     let same = weight-same (core_of c.args.child.now) c.in-Bounded.more in
-    let room = rw c.in-Bounded.is at c.requires.within in (
+    let width = rw c.in-Bounded.is at c.requires.within in (
       search (rules, the_lemmas),
       (
         c.requires.measured,
-        rw next (omega (arith, room, same, c.shift_copies_of-past.ensures.len)),
+        rw next (omega (arith, width, same, c.shift_copies_of-past.ensures.len)),
       ),
     )
 
 pub shift_repeat-returns-in-Bounded : goal.shift_repeat-returns-in-Bounded
 shift_repeat-returns-in-Bounded t c =
     let next = place_past (core_of c.args.child.now) c.in-Bounded.needed c.args.at _ c.weight.ensures in
-    let room = rw c.in-Bounded.is at c.requires.within in
+    let width = rw c.in-Bounded.is at c.requires.within in
     let shifts = rw next at c.shift_copies_of-out.ensures.any in
     record {
-      shifts = rw c.in-Bounded.is (Shifts-cat _ _ _ _ _ _ _ _ _ _ _ (omega (arith, room)) c.shift_copies_of-past.ensures.all shifts);
+      shifts = rw c.in-Bounded.is (Shifts-cat _ _ _ _ _ _ _ _ _ _ _ (omega (arith, width)) c.shift_copies_of-past.ensures.all shifts);
       len = c.shift_copies_of-out.ensures.len ∙ c.shift_copies_of-past.ensures.len;
     }
 
 pub shift_repeat-overflow_mul-place-in-Unbounded : goal.shift_repeat-overflow_mul-place-in-Unbounded
 shift_repeat-overflow_mul-place-in-Unbounded t c =
-    let room = rw c.in-Unbounded.is at c.requires.within in
-    rw c.weight-in-Unbounded.ensures (omega (arith, room, c.len-room.ensures, weight-copies_of (core_of c.args.child.now) c.in-Unbounded.before))
+    let width = rw c.in-Unbounded.is at c.requires.within in
+    rw c.weight-in-Unbounded.ensures (omega (arith, width, c.len-width.ensures, weight-copies_of (core_of c.args.child.now) c.in-Unbounded.before))
 
 pub shift_repeat-overflow_add-place-in-Unbounded : goal.shift_repeat-overflow_add-place-in-Unbounded
 shift_repeat-overflow_add-place-in-Unbounded t c =
-    let room = rw c.in-Unbounded.is at c.requires.within in
-    rw c.weight-in-Unbounded.ensures (omega (arith, room, c.len-room.ensures, weight-copies_of (core_of c.args.child.now) c.in-Unbounded.before))
+    let width = rw c.in-Unbounded.is at c.requires.within in
+    rw c.weight-in-Unbounded.ensures (omega (arith, width, c.len-width.ensures, weight-copies_of (core_of c.args.child.now) c.in-Unbounded.before))
 
 pub shift_repeat-shift_plus-requires : goal.shift_repeat-shift_plus-requires
 shift_repeat-shift_plus-requires t c =
     let next = place_past (core_of c.args.child.now) c.in-Unbounded.before c.args.at _ c.weight-in-Unbounded.ensures in
-    let room = rw c.in-Unbounded.is at c.requires.within in (
+    let width = rw c.in-Unbounded.is at c.requires.within in (
       search (rules, the_lemmas),
       (
         c.requires.measured,
-        rw next (omega (arith, room, c.shift_copies_of-past-in-Unbounded.ensures.len)),
+        rw next (omega (arith, width, c.shift_copies_of-past-in-Unbounded.ensures.len)),
       ),
     )
 
 pub shift_repeat-returns-in-Unbounded : goal.shift_repeat-returns-in-Unbounded
 shift_repeat-returns-in-Unbounded t c =
     let next = place_past (core_of c.args.child.now) c.in-Unbounded.before c.args.at _ c.weight-in-Unbounded.ensures in
-    let room = rw c.in-Unbounded.is at c.requires.within in
+    let width = rw c.in-Unbounded.is at c.requires.within in
     let shifts = rw next at c.shift_plus.ensures.shifts in
     record {
-      shifts = rw c.in-Unbounded.is (Shifts-cat _ _ _ _ _ _ _ _ _ _ _ (omega (arith, room)) c.shift_copies_of-past-in-Unbounded.ensures.all shifts);
+      shifts = rw c.in-Unbounded.is (Shifts-cat _ _ _ _ _ _ _ _ _ _ _ (omega (arith, width)) c.shift_copies_of-past-in-Unbounded.ensures.all shifts);
       len = c.shift_plus.ensures.len ∙ c.shift_copies_of-past-in-Unbounded.ensures.len;
     }

@@ -7,11 +7,11 @@ use Rattle.lic_trim.proofs.PieceLengths.{has_bit_set, or-false, and-false}
 use Rattle.lic_trim.proofs.Walking.{length-walked}
 use Rattle.lic_trim.proofs.ascii_sequences.with_spaced.Goals as goal
 
-pub returns-then-not-stands : goal.returns-then-not-stands
-returns-then-not-stands c = λ n.
+pub returns-then-not-occurs : goal.returns-then-not-occurs
+returns-then-not-occurs c = λ n.
     let way = drop c.args.place (walked c.args.side c.args.line.now) in
     let text = walked c.args.side c.args.text.now in
-    let off : begins_with_text way text ≡ false = sym c.stands.ensures ∙ c.if-not-stands.true in
+    let off : begins_with_text way text ≡ false = sym c.occurs.ensures ∙ c.if-not-occurs.true in
     sym (ap (λ b. has_bit c.args.mask n || (b && (is_whitespace (get_or way (length text) 0) && (suc (length text) == n)))) off ∙ or-false (has_bit c.args.mask n))
 
 pub returns-then-not-is_space_at : goal.returns-then-not-is_space_at
@@ -31,7 +31,7 @@ returns c = λ n.
     let line = walked c.args.side c.args.line.now in
     let way = drop c.args.place line in
     let text = walked c.args.side c.args.text.now in
-    let on : begins_with_text way text ≡ true = sym c.stands.ensures ∙ c.if-not-stands.false in
+    let on : begins_with_text way text ≡ true = sym c.occurs.ensures ∙ c.if-not-occurs.false in
     let long : length c.args.text.now ≡ length text = sym (length-walked c.args.side c.args.text.now) in
     let size : length c.args.text.now + 1 ≡ suc (length text) = omega (arith, long) in
     let white : is_whitespace (get_or way (length text) 0) ≡ true =

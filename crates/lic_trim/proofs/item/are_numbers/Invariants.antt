@@ -6,5 +6,5 @@ use Rattle.lic_trim.proofs.item.are_numbers.Given as goal
 abbrev pub invariant-loop-s : goal.invariant-loop-s
 invariant-loop-s l = record {
   few : l.digits ≤ l.s-index;
-  told : numbers_after l.digits (chars_of (drop l.s-index l.text)) ≡ numbers_after 0 (chars_of l.text);
+  noted : numbers_after l.digits (chars_of (drop l.s-index l.text)) ≡ numbers_after 0 (chars_of l.text);
 }

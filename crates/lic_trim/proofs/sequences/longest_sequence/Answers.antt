@@ -46,8 +46,8 @@ returns-then-k-longest-clause-sequence c =
     (λ m more below. greatest_above test k m (subst (λ n. n < m) known.best more) (omega arith)) (omega arith) in
     known.best ∙ sym (greatest_stays test k (length line) (omega arith) (λ m more le. beyond m (omega arith) le))
 
-pub piece_ends-is_sequence-requires-clause-told : goal.piece_ends-is_sequence-requires-clause-told
-piece_ends-is_sequence-requires-clause-told c =
+pub piece_ends-is_sequence-requires-clause-noted : goal.piece_ends-is_sequence-requires-clause-noted
+piece_ends-is_sequence-requires-clause-noted c =
     let rules = rules_of c.args.rules.now in
     let line = walked c.args.side (chars_of c.args.line.now) in
     let flags = c.loop-k.flags.items in

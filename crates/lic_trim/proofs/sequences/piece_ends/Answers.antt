@@ -44,4 +44,4 @@ returns c =
     let spaced = c.any_spaced_text_ends-spaced.ensures
     ∙ ap (list_any (λ (t : List ℕ). spaced_text_ends flags line end
     (walked c.args.side t))) c.side_spaced.ensures in
-    (λ i. ((c.space_ends-space.ensures i || separator i) || text i) || (spaced i || c.requires.told i)) ∙ sym (side_ends flags line end rules c.args.side)
+    (λ i. ((c.space_ends-space.ensures i || separator i) || text i) || (spaced i || c.requires.noted i)) ∙ sym (side_ends flags line end rules c.args.side)

@@ -28,7 +28,7 @@ returns-then-before c =
     let many = length-walked_chars End c.args.line.now in
     repeat_again c.args.flags.now line c.args.k (omega arith) c.args.text.now c.index-text-0.result
     (sym c.if-is_empty.false ∙ c.is_empty.ensures) c.index-text-0.is
-    (sym c.char_at.ensures ∙ c.if-char_at-text.false) (sym c.requires.told ∙ c.if-before.true)
+    (sym c.char_at.ensures ∙ c.if-char_at-text.false) (sym c.requires.noted ∙ c.if-before.true)
 
 pub returns-then-flags-k : goal.returns-then-flags-k
 returns-then-flags-k c =
@@ -38,15 +38,15 @@ returns-then-flags-k c =
     let many = length-walked_chars End c.args.line.now in
     let rest : take (length text - 1) (drop 1 text) ≡ drop 1 text = take_rest text 1 in
     let len : length (take (length text - 1) (drop 1 text)) ≡ length (drop 1 text) = ap length rest in
-    let stands = c.is_text.ensures ∙ (λ i. bytes_eq (rest i) (chars_of c.part.result.now))
+    let occurs = c.is_text.ensures ∙ (λ i. bytes_eq (rest i) (chars_of c.part.result.now))
     ∙ ap (bytes_eq (drop 1 text))
     (sym (reverse-reverse (chars_of c.part.result.now))
     ∙ ap reverse (c.part.ensures ∙ ap (λ n. slice_range line (k - n) k) len)) in
     elim c.if-len-k.branch [
       | then-len-k w ↦ repeat_rest c.args.flags.now line k (omega arith) text c.index-text-0.result
           (sym c.if-is_empty.false ∙ c.is_empty.ensures) c.index-text-0.is
-          (sym c.char_at.ensures ∙ c.if-char_at-text.false) (sym c.requires.told ∙ c.if-before.false)
-          (omega arith) (subst (λ n. slice_index_or c.args.flags.now (k - n) false ≡ true) len (sym w.value-is ∙ c.if-flags-k.true)) c.is_text.result stands
+          (sym c.char_at.ensures ∙ c.if-char_at-text.false) (sym c.requires.noted ∙ c.if-before.false)
+          (omega arith) (subst (λ n. slice_index_or c.args.flags.now (k - n) false ≡ true) len (sym w.value-is ∙ c.if-flags-k.true)) c.is_text.result occurs
       | else-len-k w ↦ absurd (omega (arith, leb-true _ _ (sym w.value-is ∙ c.if-flags-k.true)))
     ]
 
@@ -59,7 +59,7 @@ returns-else-flags-k c =
     let len : length (take (length text - 1) (drop 1 text)) ≡ length (drop 1 text) = ap length (take_rest text 1) in
     c.if-flags-k.false
     ∙ repeat_no_rest c.args.flags.now line k (omega arith) text c.index-text-0.result
-    (sym c.if-is_empty.false ∙ c.is_empty.ensures) c.index-text-0.is (sym c.requires.told ∙ c.if-before.false)
+    (sym c.if-is_empty.false ∙ c.is_empty.ensures) c.index-text-0.is (sym c.requires.noted ∙ c.if-before.false)
     (λ fits flag. elim c.if-len-k.branch [
       | then-len-k w ↦ false≢true (sym (subst (λ n. slice_index_or c.args.flags.now (k - n) false ≡ false) len (sym w.value-is ∙ c.if-flags-k.false)) ∙ flag)
       | else-len-k w ↦ omega arith

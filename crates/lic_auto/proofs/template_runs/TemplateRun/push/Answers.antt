@@ -13,10 +13,10 @@ returns-then-self c = record {
   number = refl;
   tree = c.push.ensures.tree;
   follows = λ e ts follows.
-      let stands = c.push.ensures.taken e ts (follows.live c.if-self.true) in
+      let occurs = c.push.ensures.taken e ts (follows.live c.if-self.true) in
       record {
-        live = λ h. stands;
-        ended = λ h. c.is_dead.ensures e (ts ++ chars c.args.token.now ∷ []) stands (is_true c.is_dead.result h);
+        live = λ h. occurs;
+        ended = λ h. c.is_dead.ensures e (ts ++ chars c.args.token.now ∷ []) occurs (is_true c.is_dead.result h);
       };
   left_out = λ h. absurd (false≢true (sym h ∙ c.if-self.true));
 }

@@ -1,7 +1,8 @@
 use Rattle.std.proofs.Common.{◌≡◌, ◌+◌, ◌*◌, ap, ◌∙◌, ◌||◌}
-use Rattle.lic_columns.specs.Masks.{has_bit, flag_at}
+use Rattle.lic_columns.specs.Masks.{flag_at}
 use Rattle.lic_columns.proofs.BitLemmas.{has_bit_or}
 use Rattle.lic_columns.proofs.columns.search.either.Goals as goal
+use Rattle.lic_trim.specs.PieceLengths.{has_bit}
 
 pub returns : goal.returns
 returns c = λ i small.

@@ -1,8 +1,9 @@
 use Rattle.std.proofs.Common.{◌<◌, ◌≤◌, ◌+◌, ◌*◌, length, ap, ◌∙◌, rules}
 use Rattle.std.proofs.lemmas.List.{get_or_read}
-use Rattle.lic_columns.specs.Masks.{has_bit, flag_at}
+use Rattle.lic_columns.specs.Masks.{flag_at}
 use Rattle.lic_columns.proofs.FlagLemmas.{column_is, no_column}
 use Rattle.lic_columns.proofs.flags.Flags.column.Goals as goal
+use Rattle.lic_trim.specs.PieceLengths.{has_bit}
 
 pub returns-then-k-len : goal.returns-then-k-len
 returns-then-k-len c = λ i small.

@@ -7,7 +7,7 @@ use Rattle.lic_columns.proofs.flags.Flags.push.Goals as goal
 pub overflow_add-self : goal.overflow_add-self
 overflow_add-self c =
     let size : c.self.inside.len ≡ length c.args.self.now = sym (length-flags_in c.self.inside.len c.self.inside.columns.items) ∙ ap length c.self.view_is in
-    record { fits = omega (arith, size, c.requires.room) }
+    record { fits = omega (arith, size, c.requires.bounded) }
 
 pub invariant_of-self-2 : goal.invariant_of-self-2
 invariant_of-self-2 c =

@@ -6,6 +6,7 @@ use Rattle.lic_columns.specs.Cells.{starts_of, ends_of}
 use Rattle.lic_columns.specs.Edges.{byte_lines, lines_blanked}
 use Rattle.lic_columns.specs.Known.{IsText, known_of}
 use Rattle.lic_columns.specs.Tokens.{text_spans}
+use Rattle.lic_columns.proofs.ColumnLemmas.{map_letters}
 use Rattle.lic_columns.proofs.ReadLines.{cleared_text, cleared_letters, cleared_ascii, letters_of_text, letters_are_ascii, as_long, paired, bounds, tokens_of_text}
 use Rattle.lic_columns.proofs.lines.Lines.read.Goals as goal
 
@@ -27,7 +28,8 @@ list_tokens-requires-clause-letters c =
     let known = c.clear_lines.new.columns in
     let is : known ≡ lines_blanked rules 0 (byte_lines text) (known_of text) =
     c.in_ok-clear_lines.ensures ∙ ap (λ l. lines_blanked rules 0 (byte_lines l) (known_of l)) same in
-    cleared_letters rules c.args.at text known is ∙ ap (map letter) (sym same)
+    let long : length c.as_bytes-bytes.result.now ≡ length known.mark = ap length same ∙ sym (cleared_text rules c.args.at text known is).whole.mark in
+    map_letters c.as_bytes-bytes.result.now known.letters known.mark (cleared_letters rules c.args.at text known is ∙ ap (map letter) (sym same)) long
 
 pub put_letters-requires : goal.put_letters-requires
 put_letters-requires c =

@@ -1,13 +1,12 @@
-use Rattle.std.proofs.Common.{◌≡◌, ℕ, ◌+◌, ◌*◌, ◌&&◌, length, true, bit_and, get_or, refl, ap, sym, ◌∙◌, arith}
+use Rattle.std.proofs.Common.{◌≡◌, ℕ, ◌+◌, ◌*◌, ◌&&◌, true, bit_and, get_or, refl, ap, sym, ◌∙◌, arith}
 use Rattle.std.proofs.lemmas.Bool.{and_parts}
-use Rattle.std.proofs.lemmas.List.{length-map}
-use Rattle.lic_columns.specs.Bytes.{letter}
-use Rattle.lic_columns.specs.Masks.{IsColumn, has_bit}
+use Rattle.lic_columns.specs.Masks.{IsColumn}
 use Rattle.lic_columns.specs.Marks.{same_as_next, middles, kept_in, is_joining}
 use Rattle.lic_columns.proofs.BitLemmas.{has_bit_and}
 use Rattle.lic_columns.proofs.ColumnLemmas.{ends_before, kept_is_mark, close_next, may_join, set_inside}
 use Rattle.lic_columns.proofs.MarkLemmas.{joined_at, length-kept}
 use Rattle.lic_columns.proofs.marks.Carried.next.Goals as goal
+use Rattle.lic_trim.specs.PieceLengths.{has_bit}
 
 pub joining-joined-requires : goal.joining-joined-requires
 joining-joined-requires c = λ i small set.
@@ -20,7 +19,7 @@ joining-joined-requires c = λ i small set.
     c.kept_of-kept.ensures (middles (same_as_next bytes marks)) marks k before.middle_before before.middle after (record { bit = c.column-mark.ensures }) in
     let bit : has_bit c.kept_of-kept.result i ≡ true = (and_parts _ _ (sym (has_bit_and c.kept_of-kept.result _ i) ∙ set)).0 in
     let inside = set_inside (kept_in c.args.separators bytes marks) (k * 64 + i) (sym (kept.bit i small) ∙ bit) in
-    omega (arith, inside, length-kept c.args.separators bytes marks, c.requires.long, ap length c.requires.letters, length-map bytes letter)
+    omega (arith, inside, length-kept c.args.separators bytes marks, c.requires.long, c.requires.letters.long)
 
 pub returns : goal.returns
 returns c =

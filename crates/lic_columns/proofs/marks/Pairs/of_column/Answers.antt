@@ -1,18 +1,16 @@
 use Rattle.std.proofs.Common.{◌≡◌, ℕ, ◌+◌, ◌*◌, ◌<◌, length, bit_and, ap, sym, ◌∙◌, arith}
-use Rattle.std.proofs.lemmas.List.{length-map}
-use Rattle.lic_columns.specs.Bytes.{letter}
-use Rattle.lic_columns.specs.Masks.{has_bit}
 use Rattle.lic_columns.proofs.BitLemmas.{has_bit_zero}
 use Rattle.lic_columns.proofs.ColumnLemmas.{pairs_inside, none_alike, same_of_alike}
 use Rattle.lic_columns.proofs.MarkLemmas.{none_same, some_same, same_at}
 use Rattle.lic_columns.proofs.marks.Pairs.of_column.Goals as goal
+use Rattle.lic_trim.specs.PieceLengths.{has_bit}
 
 pub same_places-requires : goal.same_places-requires
 same_places-requires c =
     let marks = c.args.marks.now in
     let some : 0 < bit_and c.column.result c.column_after.result = omega (arith, c.if-both-eq0.false) in
     let inside : c.args.k * 64 < length marks = pairs_inside marks c.args.k c.column.result c.column_after.result c.column.type_inv some c.column.ensures in
-    let letters : length c.args.letters.now ≡ length c.args.bytes.now = ap length c.requires.letters ∙ length-map c.args.bytes.now letter in
+    let letters : length c.args.letters.now ≡ length c.args.bytes.now = c.requires.letters.long in
     let bytes : c.args.k * 64 < length c.args.bytes.now = omega (arith, c.requires.long) in
     omega arith
 
@@ -21,7 +19,7 @@ same_places-requires-2 c =
     let marks = c.args.marks.now in
     let some : 0 < bit_and c.column.result c.column_after.result = omega (arith, c.if-both-eq0.false) in
     let inside : c.args.k * 64 < length marks = pairs_inside marks c.args.k c.column.result c.column_after.result c.column.type_inv some c.column.ensures in
-    let letters : length c.args.letters.now ≡ length c.args.bytes.now = ap length c.requires.letters ∙ length-map c.args.bytes.now letter in
+    let letters : length c.args.letters.now ≡ length c.args.bytes.now = c.requires.letters.long in
     let bytes : c.args.k * 64 < length c.args.bytes.now = omega (arith, c.requires.long) in
     omega arith
 
@@ -46,7 +44,7 @@ returns-then-alike-eq0 c =
     let letters = c.args.letters.now in
     let marks = c.args.marks.now in
     let k : ℕ = c.args.k in
-    let long : length letters ≡ length marks = ap length c.requires.letters ∙ length-map bytes letter ∙ c.requires.long in
+    let long : length letters ≡ length marks = c.requires.letters.long ∙ c.requires.long in
     let alike = λ (i : ℕ) (small : i < 64).
     ap (λ m. has_bit m i) (sym c.if-alike-eq0.true)
     ∙ some_same letters marks k c.column.result c.column_after.result i small (c.column.ensures i small) (c.column_after.ensures i small)
@@ -65,7 +63,7 @@ returns c =
     let letters = c.args.letters.now in
     let marks = c.args.marks.now in
     let k : ℕ = c.args.k in
-    let long : length letters ≡ length marks = ap length c.requires.letters ∙ length-map bytes letter ∙ c.requires.long in
+    let long : length letters ≡ length marks = c.requires.letters.long ∙ c.requires.long in
     let alike = λ (i : ℕ) (small : i < 64).
     some_same letters marks k c.column.result c.column_after.result i small (c.column.ensures i small) (c.column_after.ensures i small)
     c.same_places.result long (λ inside. c.same_places.ensures i small inside) in

@@ -4,24 +4,24 @@ use Rattle.std.proofs.lemmas.List.{length-take-le, with_items_is}
 use Rattle.std.specs.Prelude.{decimal}
 use Rattle.std.specs.Vec.{with_items}
 use Rattle.lic_fields.specs.Fields.{field}
-use Rattle.lic_fields.proofs.LineFronts.{ends_within, first-true, first_changed, second-true, second_changed}
+use Rattle.lic_fields.proofs.LineFronts.{added_length, ends_within, first-true, first_changed, second-true, second_changed}
 use Rattle.lic_fields.proofs.line_front.LineFront.add.Goals as goal
 
 pub write_last_two-requires : goal.write_last_two-requires
 write_last_two-requires c =
     let near : (c.has_hundreds.result && c.has_hundreds-2.result) ≡ true = c.if-not-has_hundreds.false in
     let first = c.has_hundreds.ensures (first-true c.has_hundreds.result c.has_hundreds-2.result near) in
-    let ends = ends_within _ _ _ _ _ c.self.invariant.within first.0 (c.self.invariant.numbers first.0) in (
+    let ends = ends_within _ _ _ _ _ c.self.invariant.1.within first.0 (c.self.invariant.1.numbers first.0) in (
       omega (arith, ends.0),
-      omega (arith, ends.1, c.len.ensures, ap length c.deref.ensures.value, c.in_ok-extend_from_slice.ensures.len, c.deref_mut.ensures.len),
+      omega (arith, ends.1, c.len.ensures, added_length c.args.line.now.items c.self.inside.len _ _ _ c.deref.ensures.value c.in_ok-add_block.ensures, c.deref_mut.ensures.len),
     )
 
 pub write_last_two-requires-2 : goal.write_last_two-requires-2
 write_last_two-requires-2 c =
     let near : (c.has_hundreds.result && c.has_hundreds-2.result) ≡ true = c.if-not-has_hundreds.false in
     let first = c.has_hundreds.ensures (first-true c.has_hundreds.result c.has_hundreds-2.result near) in
-    let ends = ends_within _ _ _ _ _ c.self.invariant.within first.0 (c.self.invariant.numbers first.0) in (
-      omega (arith, ends.0, ends.1, c.len.ensures, ap length c.deref.ensures.value, c.in_ok-extend_from_slice.ensures.len, c.len-second_end.ensures),
+    let ends = ends_within _ _ _ _ _ c.self.invariant.1.within first.0 (c.self.invariant.1.numbers first.0) in (
+      omega (arith, ends.0, ends.1, c.len.ensures, added_length c.args.line.now.items c.self.inside.len _ _ _ c.deref.ensures.value c.in_ok-add_block.ensures, c.len-second_end.ensures),
       omega (arith, c.len-second_end.ensures, c.deref_mut-2.ensures.len),
     )
 
@@ -31,16 +31,17 @@ returns-clause-line c =
     let first = c.has_hundreds.ensures (first-true c.has_hundreds.result c.has_hundreds-2.result near) in
     let second = c.has_hundreds-2.ensures (second-true c.has_hundreds.result c.has_hundreds-2.result near) in
     let kept = c.self.inside in
-    let written = c.self.invariant.numbers first.0 in
+    let written = c.self.invariant.1.numbers first.0 in
     let one_hundreds : written.one / 100 ≡ kept.first = written.one_is in
     let two_hundreds : written.two / 100 ≡ kept.second = written.two_is in
     let line = c.args.line.now.items in
-    let same = take kept.same kept.bytes.items in
-    let copied = c.extend_from_slice.new.self in
+    let bytes = take kept.len kept.bytes.items in
+    let same = take kept.same bytes in
+    let copied = c.add_block.new.line in
     let copied_is : copied.items ≡ line ++ (same ++ (field (decimal written.one) 0x09 ++ field (decimal written.two) 0x09)) =
-    c.in_ok-extend_from_slice.ensures.items ∙ ap (λ l. line ++ l) (c.deref.ensures.value ∙ written.bytes_are) in
+    c.in_ok-add_block.ensures ∙ ap (λ l. line ++ l) (ap (take kept.len) c.deref.ensures.value ∙ written.bytes_are) in
     let before : c.len.result ≡ length line = grind (arith, common_steps) in
-    let long : length same ≡ kept.same = length-take-le kept.same kept.bytes.items c.self.invariant.within in
+    let long : length same ≡ kept.same = length-take-le kept.same bytes c.self.invariant.1.within in
     let ends : c.len.result + kept.first_end ≡ length line + (length same + length (decimal written.one)) =
     omega (arith, before, long, written.end_is) in
     let one = c.write_last_two.new.bytes in

@@ -16,7 +16,7 @@ use Rattle.lic_find.specs.Scans.{HasCome, NoneBegins}
 use Rattle.lic_find.proofs.GivingLemmas.{YieldsFirst-given, IfNone-never, capped-le, capped-most, capped-below}
 use Rattle.lic_find.proofs.Matching.{matches_among-none, same_list}
 use Rattle.lic_find.proofs.StepLemmas.{AreCounted-next, walked-all}
-use Rattle.lic_find.proofs.Scanning.{HasCome-next_first, next_first, none_behind, some_begins, there}
+use Rattle.lic_find.proofs.Scanning.{HasCome-next_first, next_first, none_after, some_begins, there}
 use Rattle.lic_find.proofs.finder.FinderIterator.next.Goals as goal
 
 pub begin_next-requires : goal.begin_next-requires
@@ -36,7 +36,7 @@ returns-in_err-first-clause-steps c =
     let empty : remaining_matches f ≡ [] =
     same_list (remaining_matches f) [] (∥∥₁_map f.come (λ come.
     matches_among-none set tokens (λ after. c.matches_are_listed.ensures set tokens after) (numbers_of f.run) (place_of f)
-    (none_behind set tokens (place_of f) f.run (starts_in f.starts) f.first f.end come c.in_default.ensures.none still.0))) in
+    (none_after set tokens (place_of f) f.run (starts_in f.starts) f.first f.end come c.in_default.ensures.none still.0))) in
     let left : matches_among set tokens (numbers_of c.begin_next.new.run) (place_of f) ≡ [] =
     ap (λ ns. matches_among set tokens ns (place_of f)) c.begin_next.ensures.numbers ∙ empty in
     let none : NoneBeginFrom set tokens (numbers_of f.run) (f.first + 1) =

@@ -6,7 +6,7 @@ use Rattle.lic_marks.proofs.state.State.finish_token.Goals as goal
 
 pub loop-letter-init : goal.loop-letter-init
 loop-letter-init c = record {
-  room = refl;
+  width = refl;
   taken = ([], refl, λ lists s. rw (← each_with-none lists) s);
   last = refl;
 }
@@ -18,7 +18,7 @@ loop-letter-preserved c =
     let more : List (Gap × ℕ) = inv.taken.0 in
     let one : Gap × ℕ = gapped_letter c.in-Some.letter in
     record {
-      room = c.letter.ensures.positions ∙ inv.room;
+      width = c.letter.ensures.positions ∙ inv.width;
       taken = (
         more ++ one ∷ [],
         inv.taken.1 ∙ ap (λ x. more ++ x) given.first ∙ sym (append_assoc more (one ∷ []) (reversed_letters_left c.next.new.self)),

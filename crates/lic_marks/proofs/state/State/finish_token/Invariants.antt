@@ -9,7 +9,7 @@ use Rattle.lic_marks.proofs.state.State.finish_token.Given as goal
 -- some letters more are taken, and the others are left
 abbrev pub invariant-loop-letter : goal.invariant-loop-letter
 invariant-loop-letter l = record {
-  room : position_count l.self ≡ position_count l.fn.self;
+  width : position_count l.self ≡ position_count l.fn.self;
   taken : (more : List (Gap × ℕ))
       × (reversed_letters_left l.fn.letters ≡ more ++ reversed_letters_left l.letters)
       × ((lists : List (List (Gap × ℕ))) → HasTakenAny (core_of l.tree) l.fn.self lists → HasTakenAny (core_of l.tree) l.self (each_with more lists));

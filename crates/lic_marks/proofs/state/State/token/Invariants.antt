@@ -10,7 +10,7 @@ use Rattle.lic_marks.proofs.state.State.token.Given as goal
 -- some letters more are taken, and the others are left
 abbrev pub invariant-loop-letter : goal.invariant-loop-letter
 invariant-loop-letter l = record {
-  room : position_count l.self ≡ position_count l.fn.self;
+  width : position_count l.self ≡ position_count l.fn.self;
   taken : (more : List (Gap × ℕ))
       × (gapped_from l.fn.last true (chars l.token) ≡ more ++ letters_left l.letters)
       × ((lists : List (List (Gap × ℕ))) → HasTakenAny (core_of l.tree) l.fn.self lists → HasTakenAny (core_of l.tree) l.self (each_with more lists));

@@ -2,7 +2,7 @@ use Rattle.std.proofs.Common.{sym, ap, ◌∙◌, drop}
 use Rattle.lic_markup.specs.Pieces.{characters}
 use Rattle.lic_markup.specs.Rules.{name_at}
 use Rattle.lic_markup.proofs.LocatedLemmas.{ends_all, ends_on}
-use Rattle.lic_markup.proofs.RuleLemmas.{none_passed, pass, stop, refuse, read, name-ends, name-refused, name-goes_on, name-open}
+use Rattle.lic_markup.proofs.RuleLemmas.{none_passed, pass, stop, refuse, read, name-ends, name-refused, name-continues, name-open}
 use Rattle.lic_markup.proofs.rule.fields.name.Goals as goal
 
 pub loop-after-init : goal.loop-after-init
@@ -30,7 +30,7 @@ loop-after-preserved c =
     record {
       ends = ends_on c.args.all c.loop-after.rest c.in-Some.after inv.ends c.in-Some.ensures.end;
       passed = pass _ _ _ _ (name_at c.args.rule c.args.start) (name_at c.args.rule c.args.start) _ is
-          (name-goes_on c.args.rule c.args.start _ _ _ is (sym c.begins_with.ensures ∙ c.if-begins_with.false)
+          (name-continues c.args.rule c.args.start _ _ _ is (sym c.begins_with.ensures ∙ c.if-begins_with.false)
           (sym c.at_end.ensures ∙ c.if-at_end.false)) inv.passed;
     }
 

@@ -3,7 +3,7 @@ use Rattle.lic_markup.specs.Signs.{backslash}
 use Rattle.lic_markup.specs.Pieces.{characters}
 use Rattle.lic_markup.specs.Rules.{plain_at}
 use Rattle.lic_markup.proofs.LocatedLemmas.{ends_all, ends_on}
-use Rattle.lic_markup.proofs.RuleLemmas.{none_passed, pass, stop, refuse, read, plain-ends, plain-goes_on, plain-open}
+use Rattle.lic_markup.proofs.RuleLemmas.{none_passed, pass, stop, refuse, read, plain-ends, plain-continues, plain-open}
 use Rattle.lic_markup.proofs.rule.fields.plain.Goals as goal
 
 pub loop-first-init : goal.loop-first-init
@@ -26,7 +26,7 @@ loop-first-preserved c =
       ends = ends_on c.args.all c.loop-first.rest c.in-Some.after inv.ends c.in-Some.ensures.end;
       passed = pass _ _ _ _ (plain_at c.args.rule c.loop-first.escaped)
           (plain_at c.args.rule (eqb x.1 backslash)) _ is
-          (plain-goes_on c.args.rule c.loop-first.escaped _ x _ is
+          (plain-continues c.args.rule c.loop-first.escaped _ x _ is
           (sym c.ends_plain.ensures ∙ c.if-ends_plain.false)) inv.passed;
     }
 

@@ -2,7 +2,7 @@ use Rattle.std.proofs.Common.{sym, ap, ◌∙◌, drop}
 use Rattle.lic_markup.specs.Pieces.{characters}
 use Rattle.lic_markup.specs.Rules.{quoted_at}
 use Rattle.lic_markup.proofs.LocatedLemmas.{ends_all, ends_on}
-use Rattle.lic_markup.proofs.RuleLemmas.{none_passed, pass, stop, refuse, read, quoted-ends, quoted-goes_on, quoted-open}
+use Rattle.lic_markup.proofs.RuleLemmas.{none_passed, pass, stop, refuse, read, quoted-ends, quoted-continues, quoted-open}
 use Rattle.lic_markup.proofs.rule.fields.quoted.Goals as goal
 
 pub loop-after-init : goal.loop-after-init
@@ -24,7 +24,7 @@ loop-after-preserved c =
     record {
       ends = ends_on c.args.all c.loop-after.rest c.in-Some.after inv.ends c.in-Some.ensures.end;
       passed = pass _ _ _ _ (quoted_at c.args.rule) (quoted_at c.args.rule) _ is
-          (quoted-goes_on c.args.rule _ _ _ is
+          (quoted-continues c.args.rule _ _ _ is
           (sym c.ends_quoted.ensures ∙ c.if-ends_quoted.false)) inv.passed;
     }
 

@@ -21,3 +21,11 @@ returns-clause-tokens c =
     c.in_ok-tokens.ensures _ c.in_ok-take_line.ensures.taken
     ∙ ap₂ (λ words bytes. map reported (rewritten words (first_tokens_of (rules_of c.args.self.rules.now) 0 bytes)))
     (ap (λ p. p.phrases) c.take_line.ensures.words) (take_all c.len-end.result source (omega (arith, end)))
+
+pub returns-then-end-gt-MAX_KEPT-clause-tokens : goal.returns-then-end-gt-MAX_KEPT-clause-tokens
+returns-then-end-gt-MAX_KEPT-clause-tokens c =
+    let source = c.args.self.source.items in
+    let end : c.len-end.result ≡ length source = omega (arith, c.len-end.ensures, c.args.self.source.ok) in
+    c.in_ok-tokens.ensures _ c.in_ok-take_line.ensures.taken
+    ∙ ap₂ (λ words bytes. map reported (rewritten words (first_tokens_of (rules_of c.args.self.rules.now) 0 bytes)))
+    (ap (λ p. p.phrases) c.take_line.ensures.words) (take_all c.len-end.result source (omega (arith, end)))

@@ -1,9 +1,9 @@
-use Rattle.std.proofs.Common.{◌≢◌, ◌⊎◌, ◌+◌, ◌≤◌, All, length, take, drop, length-drop, ap, ap₂, sym, subst, ◌∙◌, arith}
+use Rattle.std.proofs.Common.{◌≡◌, ◌≢◌, ◌⊎◌, ◌+◌, ◌≤◌, All, length, take, drop, length-drop, ap, ap₂, sym, subst, ◌∙◌, arith}
 use Rattle.std.specs.List.{slice_range}
 use Rattle.lic_kind.specs.LineRules.{rules_of}
 use Rattle.lic_norm.specs.Feeding.{AreLines}
 use Rattle.lic_norm.specs.LineEnds.{IsFirstLine}
-use Rattle.lic_norm.specs.Reading.{HasRead, HasTaken}
+use Rattle.lic_norm.specs.Reading.{HasTaken}
 use Rattle.lic_norm.specs.Tokens.{first_tokens_of}
 use Rattle.lic_norm.specs.declared.reader.Reader.{Reader}
 use Rattle.lic_norm.proofs.LineCuts.{first_line-ends}
@@ -32,12 +32,12 @@ take_ascii-requires-clause-within c =
     omega (arith, c.lines_end.ensures.within, ap length rest, length-drop at c.args.self.now.source.items, c.requires.read.within)
 
 pub take_any_line-requires-clause-read : goal.take_any_line-requires-clause-read
-take_any_line-requires-clause-read c = subst HasRead (sym (c.in_ok-take_ascii.ensures.other c.if-not-branch.true)) c.requires.read
+take_any_line-requires-clause-read c = c.in_ok-take_front.ensures.read
 
 pub take_any_line-requires-clause-order : goal.take_any_line-requires-clause-order
 take_any_line-requires-clause-order c =
-    let same = c.in_ok-take_ascii.ensures.other c.if-not-branch.true in
-    omega (arith, ap (λ (r : Reader). r.line_start) same)
+    let same = c.in_ok-take_ascii.ensures.other c.if-branch.false in
+    omega (arith, ap (λ (r : Reader). r.line_start) same, c.in_ok-take_front.ensures.start c.if-branch-2.false)
 
 pub take_any_line-requires-clause-within : goal.take_any_line-requires-clause-within
 take_any_line-requires-clause-within c =
@@ -51,10 +51,12 @@ take_any_line-requires-clause-within c =
       length-drop at c.args.self.now.source.items,
       c.requires.read.within,
       ap length c.take_ascii.ensures.source,
+      ap length c.take_front.ensures.source,
     )
 
 pub take_any_line-requires-clause-fits : goal.take_any_line-requires-clause-fits
-take_any_line-requires-clause-fits c = omega (arith, c.requires.fits, ap length c.take_ascii.ensures.source)
+take_any_line-requires-clause-fits c =
+    omega (arith, c.requires.fits, ap length c.take_ascii.ensures.source, ap length c.take_front.ensures.source)
 
 pub take_any_line-requires-clause-line : goal.take_any_line-requires-clause-line
 take_any_line-requires-clause-line c =
@@ -62,13 +64,17 @@ take_any_line-requires-clause-line c =
     let at = self.line_start in
     let source = self.source.items in
     let n = c.line_end.result in
-    let same = c.in_ok-take_ascii.ensures.other c.if-not-branch.true in
+    let there = c.take_front.new.self in
+    let starts : there.line_start ≡ at =
+    c.in_ok-take_front.ensures.start c.if-branch-2.false ∙ ap (λ (r : Reader). r.line_start) (c.in_ok-take_ascii.ensures.other c.if-branch.false) in
+    let sources : there.source.items ≡ source = c.take_front.ensures.source ∙ c.take_ascii.ensures.source in
     let rest = searched_rest c.deref.result.now source at c.deref.ensures.value in
-    subst (λ (r : Reader). IsFirstLine (slice_range r.source.items r.line_start (at + n)) (drop (at + n) r.source.items)) (sym same)
-    (rest_line source at n (subst (λ l. IsFirstLine (take n l) (drop n l)) rest c.line_end.ensures.line))
+    subst (λ k. IsFirstLine (slice_range there.source.items k (at + n)) (drop (at + n) there.source.items)) (sym starts)
+    (subst (λ l. IsFirstLine (slice_range l at (at + n)) (drop (at + n) l)) (sym sources)
+    (rest_line source at n (subst (λ l. IsFirstLine (take n l) (drop n l)) rest c.line_end.ensures.line)))
 
-pub returns-in_ok-take_any_line-clause-read : goal.returns-in_ok-take_any_line-clause-read
-returns-in_ok-take_any_line-clause-read c =
+pub returns-clause-read : goal.returns-clause-read
+returns-clause-read c =
     let self = c.args.self.now in
     let at = self.line_start in
     let source = self.source.items in
@@ -77,15 +83,14 @@ returns-in_ok-take_any_line-clause-read c =
     let rest = searched_rest c.deref.result.now source at c.deref.ensures.value in
     let first = subst (λ l. IsFirstLine (take n l) (drop n l)) rest c.line_end.ensures.line in
     let within : at + n ≤ length source = omega (arith, c.line_end.ensures.within, ap length rest, length-drop at source, c.requires.read.within) in
-    read_on self new (at + n) (c.take_any_line.ensures.rules ∙ c.take_ascii.ensures.rules) c.in_ok-take_any_line.ensures.start
-    (c.take_any_line.ensures.source ∙ c.take_ascii.ensures.source) within
+    let rules = c.take_front.ensures.rules ∙ c.take_ascii.ensures.rules in
+    let sources = c.take_front.ensures.source ∙ c.take_ascii.ensures.source in
+    read_on self new (at + n) (c.take_any_line.ensures.rules ∙ rules) c.in_ok-take_any_line.ensures.start (c.take_any_line.ensures.source ∙ sources) within
     (more_lines source at n c.requires.read.lines (ended_lines (drop at source) n c.requires.ended (first_line-ends (drop at source) n first)))
-    (subst (HasTaken new.rewriting)
-    (ap₂ (λ r bytes. first_tokens_of (rules_of r) 0 (take (at + n) bytes)) c.take_ascii.ensures.rules c.take_ascii.ensures.source)
-    c.in_ok-take_any_line.ensures.taken)
+    (subst (HasTaken new.rewriting) (ap₂ (λ r bytes. first_tokens_of (rules_of r) 0 (take (at + n) bytes)) rules sources) c.in_ok-take_any_line.ensures.taken)
 
-pub returns-in_ok-take_any_line-clause-some : goal.returns-in_ok-take_any_line-clause-some
-returns-in_ok-take_any_line-clause-some c =
+pub returns-clause-some : goal.returns-clause-some
+returns-clause-some c =
     let self = c.args.self.now in
     let at = self.line_start in
     let rest = searched_rest c.deref.result.now self.source.items at c.deref.ensures.value in
@@ -95,8 +100,8 @@ returns-in_ok-take_any_line-clause-some c =
       c.in_ok-take_any_line.ensures.start,
     )
 
-pub returns-else-not-branch-clause-read : goal.returns-else-not-branch-clause-read
-returns-else-not-branch-clause-read c =
+pub returns-then-branch-clause-read : goal.returns-then-branch-clause-read
+returns-then-branch-clause-read c =
     let self = c.args.self.now in
     let at = self.line_start in
     let source = self.source.items in
@@ -105,17 +110,17 @@ returns-else-not-branch-clause-read c =
     let rest = searched_rest c.deref.result.now source at c.deref.ensures.value in
     let ends = subst (λ l. AreLines (take n l) ⊎ All (λ b. b ≢ 0x0A) l) rest c.lines_end.ensures.lines in
     let within : at + n ≤ length source = omega (arith, c.lines_end.ensures.within, ap length rest, length-drop at source, c.requires.read.within) in
-    read_on self new (at + n) c.take_ascii.ensures.rules (c.in_ok-take_ascii.ensures.start c.if-not-branch.false) c.take_ascii.ensures.source within
+    read_on self new (at + n) c.take_ascii.ensures.rules (c.in_ok-take_ascii.ensures.start c.if-branch.true) c.take_ascii.ensures.source within
     (more_lines source at n c.requires.read.lines (ended_lines (drop at source) n c.requires.ended ends))
-    (c.in_ok-take_ascii.ensures.taken c.if-not-branch.false)
+    (c.in_ok-take_ascii.ensures.taken c.if-branch.true)
 
-pub returns-else-not-branch-clause-some : goal.returns-else-not-branch-clause-some
-returns-else-not-branch-clause-some c =
+pub returns-then-branch-clause-some : goal.returns-then-branch-clause-some
+returns-then-branch-clause-some c =
     let self = c.args.self.now in
     let at = self.line_start in
     let rest = searched_rest c.deref.result.now self.source.items at c.deref.ensures.value in
     omega (
       arith,
       c.lines_end.ensures.some (omega (arith, ap length rest, some_rest (drop at self.source.items) c.requires.ended)),
-      c.in_ok-take_ascii.ensures.start c.if-not-branch.false,
+      c.in_ok-take_ascii.ensures.start c.if-branch.true,
     )

@@ -5,13 +5,14 @@ use Rattle.lic_lines.specs.Tokens.{single_signs}
 use Rattle.lic_norm.specs.Reading.{HasTaken}
 use Rattle.lic_norm.specs.Spans.{HaveTexts}
 use Rattle.lic_norm.proofs.AsciiLines.{first_tokens_of-ascii}
+use Rattle.lic_norm.proofs.StretchPlaces.{ascii_places}
 use Rattle.lic_norm.proofs.TokenTexts.{lines-texts}
 use Rattle.lic_norm.proofs.reader.line_tokens.take_ascii.Goals as goal
 
 pub of-stretch-requires : goal.of-stretch-requires
 of-stretch-requires c =
     let read = c.in_ok-read.ensures in
-    record { ascii = read.ascii; paired = read.paired; from = read.from; some = read.some; to = read.to }
+    ascii_places c.args.at c.read.new.self read.ascii read.paired read.from read.some read.to
 
 pub take_stretch-requires-clause-texts : goal.take_stretch-requires-clause-texts
 take_stretch-requires-clause-texts c =

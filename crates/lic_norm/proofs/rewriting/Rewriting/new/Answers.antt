@@ -9,7 +9,7 @@ pub returns-clause-taken : goal.returns-clause-taken
 returns-clause-taken c = record {
   settled = [];
   settles = subst (λ kept. Settles c.args.phrases.now.phrases [] [] kept) (sym c.new.ensures) (Settles-new c.args.phrases.now.phrases);
-  listed = c.new-2.ensures;
-  known = c.requires;
+  listed = c.requires.empty;
+  known = c.requires.texts;
   texts = All-nil (λ t. IsTokenText t.text);
 }

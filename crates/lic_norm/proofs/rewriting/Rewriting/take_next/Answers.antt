@@ -61,5 +61,5 @@ returns-clause-taken c =
     } in
     one_taken tokens i (i + 1) c.args.self.now c.push_text-2.new.self token c.in_ok-push_text-2.ensures.taken
     (token_taken tokens i token.text token.start token.end token.after_blank (omega (arith, c.if-i-len.false, c.len.ensures)) (sym c.is_sign.ensures ∙ c.if-is_sign.false)
-    c.text-text.ensures.ascii (c.text-text.ensures.text no_token) (c.start-start.ensures no_token) (c.end-2.ensures no_token)
+    c.text-text.ensures.words (c.text-text.ensures.text no_token) (c.start-start.ensures no_token) (c.end-2.ensures no_token)
     (c.after_blank-blank.ensures no_token))

@@ -41,7 +41,7 @@ returns-clause-taken c =
     (All-get_or (λ t. IsTokenText t.text) tokens i no_token lt c.requires.texts) in
     let first =
     token_taken tokens i token.text token.start token.end token.after_blank lt c.in-Some.ensures.no_sign
-    c.in-Some.ensures.ascii (c.in-Some.ensures.text no_token) (c.start-start.ensures no_token) (c.end-end.ensures no_token) refl in
+    c.in-Some.ensures.words (c.in-Some.ensures.text no_token) (c.start-start.ensures no_token) (c.end-end.ensures no_token) refl in
     one_taken tokens i (i + 1) c.args.self.now _ token
     (token_left c.args.self.now c.push_front.new.self token c.requires.none c.in_ok-push_front.ensures text
     (λ settled taken. c.in-Some.ensures.left settled taken token refl)) first

@@ -1,4 +1,4 @@
-use Rattle.std.proofs.Common.{◌≡◌, ◌-◌, ◌++◌, [], length, ap, sym, ◌∙◌, append-nil, subst, arith, take}
+use Rattle.std.proofs.Common.{◌≡◌, ◌-◌, [], length, ap, sym, ◌∙◌, append-nil, subst, arith, take}
 use Rattle.std.specs.Str.{IsUtf8}
 use Rattle.lic_phrases.specs.Spelling.{ends_in_word}
 use Rattle.lic_norm.specs.Batches.{HasSpelledUpTo}

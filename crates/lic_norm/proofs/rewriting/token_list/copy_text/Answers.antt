@@ -1,5 +1,6 @@
 use Rattle.std.proofs.Common.{◌≡◌, ◌+◌, ◌≤◌, ◌++◌, length, take, ap, ap₂, sym, subst, ◌∙◌, arith}
 use Rattle.std.proofs.lemmas.Grind.{common_steps}
+use Rattle.std.specs.Str.{IsCharBoundary}
 use Rattle.std.specs.String.{string_bytes}
 use Rattle.std.specs.String.Boundary.{IsSplitPoint}
 use Rattle.lic_norm.proofs.CopyLemmas.{copied, may_be_cut}
@@ -14,10 +15,10 @@ truncate-requires c = λ within.
     c.in_ok-push_str.ensures.bytes ∙ ap (λ l. old ++ l) c.range.ensures.value in
     let long : c.len.result ≡ length old = grind (arith, common_steps) in
     let short : length text ≤ 16 = omega (arith, c.if-text-gt-COPIED.false) in
-    let wide : 16 ≤ length letters = omega (arith, c.if-letters-lt-COPIED.false) in
+    let border : IsCharBoundary letters 16 = c.is_char_boundary.ensures.test.0 c.if-not-is_char_boundary.false in
     subst (λ n. IsSplitPoint (string_bytes c.push_str-2.new.self) (n + length text)) (sym long)
     (subst (λ l. IsSplitPoint l (length old + length text)) (sym pushed)
-    (may_be_cut old letters text 16 c.requires.front short c.requires.ascii wide))
+    (may_be_cut old letters text 16 c.requires.front short c.utf8.letters c.utf8.text border.0))
 
 pub returns : goal.returns
 returns c =

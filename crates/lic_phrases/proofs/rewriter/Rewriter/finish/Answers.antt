@@ -4,7 +4,7 @@ use Rattle.std.proofs.lemmas.List.{map-append}
 use Rattle.lic_lines.specs.Tokens.{token_in, tokens_in}
 use Rattle.lic_phrases.specs.Rewriting.{spanned, phrases_joined}
 use Rattle.lic_phrases.specs.Waiting.{spanned_in}
-use Rattle.lic_phrases.proofs.SettlingLemmas.{Settles-end, GivesSequences-behind, OnOk-both, behind_front}
+use Rattle.lic_phrases.proofs.SettlingLemmas.{Settles-end, GivesSequences-past, OnOk-both, after_front}
 use Rattle.lic_phrases.proofs.rewriter.Rewriter.finish.Goals as goal
 
 pub returns-clause-whole : goal.returns-clause-whole
@@ -25,9 +25,9 @@ returns-clause-whole c =
     (λ more all. λ front taken before.
     Settles-end words taken (front ++ old) (front ++ between) (front ++ new) kept kept' waiting
     before
-    (GivesSequences-behind words front old between kept kept' kept.sign c.in_ok-take_sign.ensures.given)
+    (GivesSequences-past words front old between kept kept' kept.sign c.in_ok-take_sign.ensures.given)
     (c.in_ok-take_sign.ensures.short before.short)
     gathered
-    (behind_front front between new _ _ (more [] (λ _. refl) ∙ ap (λ l. new ++ map spanned (phrases_joined words (tokens_in l ++ []))) all)))
+    (after_front front between new _ _ (more [] (λ _. refl) ∙ ap (λ l. new ++ map spanned (phrases_joined words (tokens_in l ++ []))) all)))
     c.give_known.ensures.given
     (c.give_known.ensures.all refl)

@@ -6,7 +6,7 @@ use Rattle.lic_phrases.specs.Settling.{GivesSequences, IsShort, Settles}
 use Rattle.lic_phrases.specs.Held.{held}
 use Rattle.lic_phrases.specs.Waiting.{spanned_in}
 use Rattle.lic_phrases.proofs.SignLemmas.{sign_sequences-other}
-use Rattle.lic_phrases.proofs.SettlingLemmas.{Settles-more, GivesSequences-both, GivesSequences-behind, length-held, OnOk-both, OnOk-from}
+use Rattle.lic_phrases.proofs.SettlingLemmas.{Settles-more, GivesSequences-both, GivesSequences-past, length-held, OnOk-both, OnOk-from}
 use Rattle.lic_phrases.proofs.rewriter.Rewriter.push.Goals as goal
 
 pub returns-then-join_sign-clause-settles : goal.returns-then-join_sign-clause-settles
@@ -52,7 +52,7 @@ returns-then-is_sign-clause-settles c = λ front taken before.
     (record { sign = sign; address = address; phrase = phrase }) sign (front ++ new)
     (record { sign = token ∷ []; address = k.address; phrase = k.phrase }))
     × IsShort (record { sign = token ∷ []; address = k.address; phrase = k.phrase })) (sym c.self-2.view_is) (
-      GivesSequences-behind words front old new (record { sign = sign; address = address; phrase = phrase }) kept sign gives,
+      GivesSequences-past words front old new (record { sign = sign; address = address; phrase = phrase }) kept sign gives,
       record { sign = omega arith; address = short.address; phrase = short.phrase },
     ) in
     Settles-more words taken (front ++ old) (front ++ new)
@@ -103,7 +103,7 @@ returns-clause-settles c =
     ∙ ap (λ l. sign ++ l) (sign_sequences-other token rest other)
     ∙ sym (append_assoc sign (token ∷ []) (sign_sequences rest))
     ∙ ap (λ s. (sign ++ token ∷ []) ++ sign_sequences (s ++ rest)) (sym none))
-    (GivesSequences-behind words front old new (record { sign = sign; address = address; phrase = phrase }) kept' (sign ++ token ∷ [])
+    (GivesSequences-past words front old new (record { sign = sign; address = address; phrase = phrase }) kept' (sign ++ token ∷ [])
     (GivesSequences-both words old between new (record { sign = sign; address = address; phrase = phrase }) kept kept' sign (token ∷ []) first second))
     (shorter short))
     c.take_sequence.ensures.given

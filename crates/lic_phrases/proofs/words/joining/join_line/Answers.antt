@@ -1,7 +1,7 @@
 use Rattle.std.proofs.Common.{◌≡◌, ◌<◌, ◌++◌, ◌∷◌, [], ℕ, List, length, get_or, take, ◌+◌, refl, sym, ap, subst, ◌∙◌, arith}
 use Rattle.std.proofs.lemmas.List.{length-map}
 use Rattle.lic_phrases.specs.Classes.{AreRepresentatives, classes_joined}
-use Rattle.lic_phrases.proofs.LineClasses.{line_begun, line_goes_on}
+use Rattle.lic_phrases.proofs.LineClasses.{line_begun, line_continues}
 use Rattle.lic_phrases.proofs.words.joining.join_line.Goals as goal
 
 as_long : (heads : List ℕ) (a b : ℕ) → length (classes_joined heads a b) ≡ length heads
@@ -24,6 +24,6 @@ loop-k-preserved c =
       long = ap length now ∙ as_long old (get_or line 0 0) (get_or line c.loop-k.k 0) ∙ c.loop-k.invariant.long;
       within = omega arith;
       joined = λ lines known. subst (AreRepresentatives (lines ++ take (c.loop-k.k + 1) line ∷ [])) (sym now)
-          (line_goes_on lines old line c.loop-k.k (omega arith) (omega arith) bound
+          (line_continues lines old line c.loop-k.k (omega arith) (omega arith) bound
           (c.loop-k.invariant.joined lines known));
     }

@@ -2,7 +2,7 @@
 use Rattle.std.proofs.Common.{refl, sym, ◌∙◌, true≢false, arith}
 use Rattle.lic_reverse.proofs.CountNumbers.{IsOfNumber, number-at}
 use Rattle.lic_view.proofs.CountPlaces.{number-lies}
-use Rattle.lic_reverse.proofs.CountSpans.{back-behind_blank, back-counted, back-no_letter}
+use Rattle.lic_reverse.proofs.CountSpans.{back-after_blank, back-counted, back-no_letter}
 use Rattle.lic_view.proofs.ViewSpans.{within-one}
 use Rattle.lic_reverse.proofs.letters.counts.letters_before.Goals as goal
 
@@ -13,7 +13,7 @@ place_of-requires c =
 pub returns-then-is_after_blank-clause-none : goal.returns-then-is_after_blank-clause-none
 returns-then-is_after_blank-clause-none c = λ keep.
     let tokens = c.args.view.now in
-    back-behind_blank keep tokens c.in_ok-place.place c.args.span.last (IsOfNumber tokens c.args.span c.args.number)
+    back-after_blank keep tokens c.in_ok-place.place c.args.span.last (IsOfNumber tokens c.args.span c.args.number)
     (number-at tokens c.args.span c.args.number c.in_ok-place.place c.in_ok-place.ensures)
     (c.is_after_blank.ensures.0 c.if-is_after_blank.true)
 

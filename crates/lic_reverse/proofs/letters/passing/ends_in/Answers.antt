@@ -26,7 +26,7 @@ loop-place-preserved c =
           let none = option-none _ _ c.passing_before.result (sym c.is_some.ensures ∙ w.if-is_some.false) c.passing_before.ensures in
           subst (λ v. AreThoseBefore (LeadsToSome tokens passes) low (place + 1) v.items) (sym w.ends-is)
           (before-skip (LeadsToSome tokens passes) low place c.loop-place.ends.items c.loop-place.invariant
-          (λ meant. none meant.0 meant.1.place meant.1.letter meant.1.is meant.1.dark meant.1.passes_it meant.1.stands))
+          (λ meant. none meant.0 meant.1.place meant.1.letter meant.1.is meant.1.dark meant.1.passes_it meant.1.occurs))
     ]
 
 pub returns-clause-rising : goal.returns-clause-rising

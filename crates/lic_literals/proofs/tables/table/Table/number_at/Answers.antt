@@ -9,7 +9,7 @@ pub returns : goal.returns
 returns g c = λ w size occurs.
     let bytes = c.args.bytes.now in
     let offset = c.args.offset in
-    let behind : length (drop offset bytes) ≡ length bytes - offset = length-drop offset bytes in
+    let past : length (drop offset bytes) ≡ length bytes - offset = length-drop offset bytes in
     let whole : take (length bytes - offset) (drop offset bytes) ≡ drop offset bytes = take_all (length bytes - offset) (drop offset bytes) (omega arith) in
     let window : c.in_ok-window.window.now ≡ w =
     c.in_ok-window.ensures.cases.same ∙ ap (take g.row.LENGTH) whole ∙ ap (λ n. take n (drop offset bytes)) (sym size) ∙ OccursAt-part bytes w offset occurs in

@@ -68,12 +68,12 @@ loop-line-preserved c =
 -- at the end of the text all lines are read
 all_read : (lines : List (List (List (List ℕ)))) (n : ℕ) (phrases : List (List (List ℕ))) (heads : List ℕ)
     → length lines ≤ n → HasRead [] (take n lines) [] phrases heads [] → HasRead [] lines [] phrases heads []
-all_read lines n phrases heads behind read = subst (λ (l : List (List (List (List ℕ)))). HasRead [] l [] phrases heads []) (take_all n lines behind) read
+all_read lines n phrases heads past read = subst (λ (l : List (List (List (List ℕ)))). HasRead [] l [] phrases heads []) (take_all n lines past) read
 
 -- and none is at fault
 all_sound : (lines : List (List (List (List ℕ)))) (n count : ℕ) (first : Option WordsFault) → length lines ≤ n
     → first ≡ fault_from count (located (n + 1) (drop n lines)) → first ≡ None
-all_sound lines n count first behind sound = sound ∙ ap (λ l. fault_from count (located (n + 1) l)) (drop_all n lines behind)
+all_sound lines n count first past sound = sound ∙ ap (λ l. fault_from count (located (n + 1) l)) (drop_all n lines past)
 
 pub returns : goal.returns
 returns c =
@@ -84,10 +84,10 @@ returns c =
     let reader = c.loop-line.self in
     let all = YieldsList-end (YieldsList-from_str_split 10 text (lit< tt) (cc) (cc)
     (cc)) c.loop-line.yielded _ c.loop-line.yielded_by _ _ c.in-None.is c.next.ensures.steps in
-    let behind : length lines ≤ n = omega (arith, all.1, length-map (slice_split (λ b. b == 0x0A) text) phrases_of_line) in
+    let past : length lines ≤ n = omega (arith, all.1, length-map (slice_split (λ b. b == 0x0A) text) phrases_of_line) in
     record {
       listed = known.listed;
-      read = all_read lines n (phrases_in reader.phrases.items) reader.heads.items behind known.read;
-      sound = all_sound lines n reader.count (first_fault text) behind known.sound;
+      read = all_read lines n (phrases_in reader.phrases.items) reader.heads.items past known.read;
+      sound = all_sound lines n reader.count (first_fault text) past known.sound;
       refused = tt;
     }

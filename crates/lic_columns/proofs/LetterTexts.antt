@@ -1,0 +1,105 @@
+-- The letters of simple characters: what of them is beyond ASCII is of words.
+use Rattle.std.proofs.Common.{◌≡◌, ℕ, zero, suc, ◌<◌, ◌≤◌, false, ◌&&◌, ◌||◌, List, [], ◌∷◌, ◌++◌, All, length, map, get_or, replicate, inl, inr, refl, sym, ap, ap₂, subst, ◌∙◌, arith, append-nil}
+use Rattle.std.specs.Prelude.{nat_lt, chars, IsUtf8, encode_utf8_all}
+use Rattle.std.specs.Char.{encode_utf8, len_utf8}
+use Rattle.std.specs.List.{AllByRecursion}
+use Rattle.std.proofs.lemmas.Bool.{cases_Bool, cases_lt, cond-true, cond-false, lt-ltb, ltb-true}
+use Rattle.std.proofs.lemmas.List.{map-append}
+use Rattle.std.proofs.lemmas.List.Elements.{All-head}
+use Rattle.std.proofs.lemmas.Str.{chars_from_encodes, encode_ascii, encodes-append, inside_one}
+use Rattle.lic_kind.specs.declared.Kind.TheVariants as kind
+use Rattle.lic_kind.specs.Kinds.{kind_of, is_mark_kind, is_word_kind}
+use Rattle.lic_kind.proofs.LetterLemmas.{word_letters}
+use Rattle.lic_columns.specs.Bytes.{letter, has_letter}
+use Rattle.lic_columns.specs.PlainLines.{IsOfWord}
+use Rattle.lic_columns.specs.Simple.{IsSimple, IsSimpleLetter, AreSimple, in_place, in_place_of, all_in_place}
+use Rattle.lic_columns.proofs.AsciiLetters.{letter_low}
+use Rattle.lic_columns.proofs.Borders.{mark_low}
+use Rattle.lic_columns.proofs.WideTexts.{mark_shape}
+
+-- ---- bytes of a character beyond ASCII
+
+not_below : (b : ℕ) → 128 ≤ b → nat_lt b 128 ≡ false
+not_below b high = elim (cases_Bool (nat_lt b 128)) [
+  | inl below ↦ absurd (let low : b < 128 = ltb-true b 128 below in omega (arith, low, high))
+  | inr none ↦ none
+]
+
+high_letter : (b : ℕ) → 128 ≤ b → letter b ≡ b
+high_letter b high = cond-false (has_letter b) _ b (ap (λ t. t && (is_word_kind (kind_of b) || is_mark_kind (kind_of b))) (not_below b high))
+
+all_high : (xs : List ℕ) → ((k : ℕ) → k < length xs → 128 ≤ get_or xs k 0) → map letter xs ≡ xs
+all_high [] high = refl
+all_high (x ∷ xs) high = ap₂ (λ a l. a ∷ l) (high_letter x (high zero (omega arith))) (all_high xs (λ k lt. high (suc k) (omega (arith, lt))))
+
+wide_letters : (d : ℕ) → 128 ≤ d → map letter (encode_utf8_all (d ∷ [])) ≡ encode_utf8_all (d ∷ [])
+wide_letters d big =
+    let bytes = encode_utf8 d in
+    let high : (k : ℕ) → k < length bytes → 128 ≤ get_or bytes k 0 = λ k lt. elim (cases_lt (get_or bytes k 0) 128) [
+      | inl low ↦ absurd (
+          let same = inside_one d [] bytes k (sym (append-nil bytes)) lt low in
+          omega (arith, same, low, big))
+      | inr high ↦ high
+    ] in
+    ap (map letter) (append-nil bytes) ∙ all_high bytes high ∙ sym (append-nil bytes)
+
+-- ---- letters as characters
+
+-- the letters of these bytes are characters, of which those beyond ASCII are of words
+abbrev HaveWords : List ℕ → Type 0
+HaveWords spelled = (ds : List ℕ) × (map letter spelled ≡ encode_utf8_all ds) × AllByRecursion IsOfWord ds
+
+low_words : (n d : ℕ) → d < 128 → HaveWords (replicate n d)
+low_words zero d low = ([], refl, tt)
+low_words (suc n) d low =
+    let rest = low_words n d low in
+    let small = letter_low d low in (
+      letter d ∷ rest.0,
+      ap₂ (λ k l. k ++ l) (sym (encode_ascii (letter d) small)) rest.1,
+      (λ big. absurd (omega (arith, big, small)), rest.2),
+    )
+
+big_in_place : (c : ℕ) → 128 ≤ c → in_place c ≡ in_place_of (kind_of c) c
+big_in_place c big = cond-false (nat_lt c 128) (c ∷ []) (in_place_of (kind_of c) c) (not_below c big)
+
+letter_words : (c : ℕ) → 128 ≤ c → IsSimpleLetter c → HaveWords (in_place c)
+letter_words c big is =
+    let own : in_place c ≡ encode_utf8_all (is.letter ∷ []) =
+    big_in_place c big ∙ ap (λ k. in_place_of k c) is.word ∙ ap encode_utf8_all is.spelled in
+    let word : kind_of is.letter ≡ kind.Word =
+    All-head (λ d. kind_of d ≡ kind.Word) is.letter [] (subst (All (λ d. kind_of d ≡ kind.Word)) is.spelled (word_letters c is.word)) in
+    (is.letter ∷ [], ap (map letter) own ∙ wide_letters is.letter is.high, (λ high. word, tt))
+
+simple_words : (c : ℕ) → IsSimple c → HaveWords (in_place c)
+simple_words c simple = elim (cases_lt c 128) [
+  | inl small ↦ subst HaveWords (sym (cond-true (nat_lt c 128) (c ∷ []) (in_place_of (kind_of c) c) (lt-ltb c 128 small))) (low_words 1 c small)
+  | inr big ↦ elim simple [
+    | inl small ↦ absurd (omega (arith, small, big))
+    | inr other ↦ elim other [
+      | inl is ↦ letter_words c big is
+      | inr more ↦ elim more [
+        | inl blank ↦ subst HaveWords (sym (big_in_place c big ∙ ap (λ k. in_place_of k c) blank)) (low_words (len_utf8 c) 0x20 (omega arith))
+        | inr is ↦ let shape = mark_shape c big is in subst HaveWords (sym shape.own) (low_words (len_utf8 c) shape.letter (mark_low shape.letter shape.mark))
+      ]
+    ]
+  ]
+]
+
+all_words : (cs : List ℕ) → AreSimple cs → HaveWords (all_in_place cs)
+all_words [] are = ([], refl, tt)
+all_words (c ∷ cs) are =
+    let here = simple_words c are.0 in
+    let rest = all_words cs are.2 in (
+      here.0 ++ rest.0,
+      map-append letter (in_place c) (all_in_place cs) ∙ ap₂ (λ k l. k ++ l) here.1 rest.1 ∙ sym (encodes-append here.0 rest.0),
+      both here.0 rest.0 here.2 rest.2,
+    )
+  where
+    both : (xs ys : List ℕ) → AllByRecursion IsOfWord xs → AllByRecursion IsOfWord ys → AllByRecursion IsOfWord (xs ++ ys)
+    both [] ys h k = k
+    both (x ∷ xs) ys h k = (h.0, both xs ys h.1 k)
+
+pub letters_of_words : (cs letters : List ℕ) → AreSimple cs → IsUtf8 letters → letters ≡ map letter (all_in_place cs) → AllByRecursion IsOfWord (chars letters)
+letters_of_words cs letters are utf8 is =
+    let words = all_words cs are in
+    subst (AllByRecursion IsOfWord) (chars_from_encodes words.0 letters utf8 (sym (is ∙ words.1))) words.2

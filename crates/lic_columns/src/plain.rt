@@ -1,0 +1,71 @@
+//! Lines at the start of bytes of which nothing but white space is taken.
+ghost use Rattle.std.specs.Prelude.{◌≡◌, ◌≤◌, length, take, IfOk, IfSome, IsTrue, IsUtf8, chars};
+ghost use Rattle.lic_kind.specs.LineRules.{rules_of};
+ghost use Rattle.lic_trim.specs.Lines.{cut_of, whole_line};
+ghost use Rattle.lic_trim.specs.Spaces.{TakesSpaces};
+ghost use Rattle.lic_columns.specs.PlainLines.{ArePlainLines, IsPlainLine};
+ghost use Rattle.lic_columns.specs.Simple.{IsSpelled};
+
+use crate::wide::spell_front;
+use lic_lines::Rules;
+use lic_trim::{takes_spaces, text_takes_spaces};
+use memchr::memchr;
+use simdutf8::basic::from_utf8;
+use std::alloc::{AllocError, Global};
+
+/// Whether these bytes are UTF-8, and all that is taken from a line of them is white space, as far as its edges show.
+fn is_plain(rules: &Rules, line: &[u8]) -> bool
+    ensures utf8 { IsTrue result → IsUtf8 line.now }
+    ensures takes { IsTrue result → TakesSpaces (cut_of (rules_of rules.now) whole_line (chars line.now)) (chars line.now) }
+{
+    if line.is_ascii() {
+        return takes_spaces(rules, line);
+    }
+    match from_utf8(line) {
+        Ok(text) => text_takes_spaces(rules, text),
+        Err(_) => false,
+    }
+}
+
+/// How many bytes the first line has, if it has ended, is in UTF-8, and nothing but white space is taken from it, as far as its edges
+/// show.
+fn plain_line(rules: &Rules, bytes: &[u8]) -> Option<usize>
+    ensures within { IfSome result (λ n. n ≤ length bytes.now) }
+    ensures plain { IfSome result (λ n. IsPlainLine (rules_of rules.now) (take n bytes.now)) }
+{
+    let place = memchr(b'\n', bytes)?;
+    let end = place + 1;
+    if is_plain(rules, &bytes[..end]) {
+        Some(end)
+    } else {
+        None
+    }
+}
+
+/// Puts what such lines at the start of these bytes are spelled by in the place of what is there, as far as they are of simple
+/// characters. The answer is how many bytes these lines have.
+///
+/// # Errors
+/// Memory ran out. What was put is then not said.
+pub fn spell_lines(
+    alloc: Global,
+    rules: &Rules,
+    bytes: &[u8],
+    spelled: &mut Vec<u8>,
+) -> Result<usize, AllocError>
+    ensures within { IfOk result (λ n. n ≤ length bytes.now) }
+    ensures plain { IfOk result (λ n. ArePlainLines (rules_of rules.now) (take n bytes.now)) }
+    ensures spelled { IfOk result (λ n. IsSpelled (take n bytes.now) spelled.new.items) }
+{
+    spelled.clear();
+    let mut at = 0;
+    while let Some(count) = plain_line(rules, &bytes[at..]) {
+        let simple = spell_front(alloc, spelled, &bytes[at..at + count])?;
+        if simple < count {
+            spelled.truncate(at);
+            return Ok(at);
+        }
+        at += count;
+    }
+    Ok(at)
+}

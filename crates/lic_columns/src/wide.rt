@@ -1,0 +1,275 @@
+//! Characters beyond ASCII, spelled byte for byte.
+ghost use Rattle.std.specs.Prelude.{◌≡◌, ◌<◌, ◌≤◌, ◌++◌, ◌∷◌, [], drop, length, replicate, IfOk, IfSome, IsTrue, OnOk, false};
+ghost use Rattle.std.specs.Char.{IsScalar, encode_utf8, len_utf8};
+ghost use Rattle.lic_kind.specs.Kinds.{kind_of, spell};
+ghost use Rattle.lic_columns.specs.Simple.{ArePut, AreOwn, IsNoFront, IsSimple, in_place};
+
+use lic_kind::{Kind, is_dash, is_quote, kind_of, spell, word_letter};
+use std::alloc::{AllocError, Global};
+
+/// So many bytes of ASCII are looked at together.
+const AT_ONCE: usize = 16;
+
+/// The character of these two bytes.
+#[inline(always)]
+fn char_of_two(first: u8, second: u8) -> Option<char>
+    ensures scalar { IfSome result (λ c. IsScalar c) }
+    ensures low { IfSome result (λ c. 128 ≤ c) }
+    ensures high { IfSome result (λ c. c < 2048) }
+    ensures bytes { IfSome result (λ c. encode_utf8 c ≡ first ∷ second ∷ []) }
+{
+    if first < 0xC2 || first > 0xDF || second < 0x80 || second > 0xBF {
+        return None;
+    }
+    let code = (first as u32 - 0xC0) * 64 + (second as u32 - 0x80);
+    let Some(c) = char::from_u32(code) else {
+        return None;
+    };
+    Some(c)
+}
+
+/// The character of these three bytes.
+#[inline(always)]
+fn char_of_three(first: u8, second: u8, third: u8) -> Option<char>
+    ensures scalar { IfSome result (λ c. IsScalar c) }
+    ensures low { IfSome result (λ c. 2048 ≤ c) }
+    ensures high { IfSome result (λ c. c < 65536) }
+    ensures bytes { IfSome result (λ c. encode_utf8 c ≡ first ∷ second ∷ third ∷ []) }
+{
+    if first < 0xE0
+        || first > 0xEF
+        || second < 0x80
+        || second > 0xBF
+        || third < 0x80
+        || third > 0xBF
+    {
+        return None;
+    }
+    let code = ((first as u32 - 0xE0) * 64 + (second as u32 - 0x80)) * 64 + (third as u32 - 0x80);
+    if code < 2048 {
+        return None;
+    }
+    let Some(c) = char::from_u32(code) else {
+        return None;
+    };
+    Some(c)
+}
+
+/// Whether the character is of words, and its own letter.
+#[inline(always)]
+fn is_own(c: char) -> bool
+    ensures word { IsTrue result → kind_of c ≡ Kind.Word }
+    ensures letter { IsTrue result → spell c ≡ c ∷ [] }
+{
+    match word_letter(c) {
+        Some(letter) => letter == c,
+        None => false,
+    }
+}
+
+/// The character beyond ASCII at the start of these bytes, if it has two or three of them.
+#[inline(always)]
+fn first_char(bytes: &[u8]) -> Option<char>
+    ensures scalar { IfSome result (λ c. IsScalar c) }
+    ensures beyond { IfSome result (λ c. 128 ≤ c) }
+    ensures few { IfSome result (λ c. len_utf8 c ≤ 3) }
+    ensures within { IfSome result (λ c. len_utf8 c ≤ length bytes.now) }
+    ensures bytes { IfSome result (λ c. bytes.now ≡ encode_utf8 c ++ drop (len_utf8 c) bytes.now) }
+{
+    if bytes.len() < 2 {
+        return None;
+    }
+    if bytes[0] < 0xE0 {
+        let two = char_of_two(bytes[0], bytes[1])?;
+        return Some(two);
+    }
+    if bytes.len() < 3 {
+        return None;
+    }
+    let three = char_of_three(bytes[0], bytes[1], bytes[2])?;
+    Some(three)
+}
+
+/// How many bytes a character beyond ASCII at the start of these has, if it is of words and its own letter, or else 0.
+#[inline(always)]
+fn own_letter(bytes: &[u8]) -> usize
+    ensures { 0 < result → AreOwn bytes.now result }
+{
+    let Some(c) = first_char(bytes) else {
+        return 0;
+    };
+    if is_own(c) { c.len_utf8() } else { 0 }
+}
+
+/// How many bytes stay as they are at the start of these: 16 of ASCII, one of it, or a letter that is its own; or else 0.
+#[inline(always)]
+fn own_some(bytes: &[u8]) -> usize
+    requires { 0 < length bytes.now }
+    ensures { 0 < result → AreOwn bytes.now result }
+{
+    if !bytes[0].is_ascii() {
+        return own_letter(bytes);
+    }
+    if bytes.len() >= AT_ONCE && bytes[..AT_ONCE].is_ascii() {
+        AT_ONCE
+    } else {
+        1
+    }
+}
+
+/// How many bytes stay as they are at the start of these.
+#[inline(always)]
+fn own_front(bytes: &[u8]) -> usize
+    ensures { AreOwn bytes.now result }
+{
+    let mut at = 0;
+    while at < bytes.len() {
+        let count = own_some(&bytes[at..]);
+        if count == 0 {
+            return at;
+        }
+        at += count;
+    }
+    at
+}
+
+/// Adds a byte so many times.
+fn push_times(spelled: &mut Vec<u8>, byte: u8, times: usize) -> Result<(), AllocError>
+    ensures { OnOk result (spelled.new.items ≡ spelled.old.items ++ replicate times byte) }
+{
+    for _ in 0..times {
+        spelled.push(byte)?;
+    }
+    Ok(())
+}
+
+/// Whether a character begins these bytes.
+fn is_front(c: char, bytes: &[u8]) -> bool
+    ensures { result ≡ false → IsNoFront (encode_utf8 c) bytes.now }
+{
+    let mut buffer = [0; 4];
+    bytes.starts_with(c.encode_utf8(&mut buffer).as_bytes())
+}
+
+/// The letter of a word character, if it has one.
+#[inline(always)]
+fn one_letter(alloc: Global, c: char) -> Result<Option<char>, AllocError>
+    requires { kind_of c ≡ Kind.Word }
+    ensures { IfOk result (λ letter. IfSome letter (λ d. spell c ≡ d ∷ [])) }
+{
+    if let Some(letter) = word_letter(c) {
+        return Ok(Some(letter));
+    }
+    match spell(alloc, c)?.as_slice() {
+        [letter] => Ok(Some(*letter)),
+        _ => Ok(None),
+    }
+}
+
+/// Adds the letter of a word character beyond ASCII of so many bytes, if it has one, with as many bytes.
+#[inline(always)]
+#[tactic(auto, using(crate::proofs::WideBytes::letter_added, crate::proofs::WideBytes::letter_simple))]
+fn push_letter(
+    alloc: Global,
+    spelled: &mut Vec<u8>,
+    c: char,
+    width: usize,
+) -> Result<bool, AllocError>
+    requires beyond { 128 ≤ c }
+    requires word { kind_of c ≡ Kind.Word }
+    requires width { width ≡ len_utf8 c }
+    ensures simple { IfOk result (λ known. IsTrue known → IsSimple c) }
+    ensures added { IfOk result (λ known. IsTrue known → spelled.new.items ≡ spelled.old.items ++ in_place c) }
+    ensures same { IfOk result (λ known. known ≡ false → spelled.new.items ≡ spelled.old.items) }
+{
+    let Some(letter) = one_letter(alloc, c)? else {
+        return Ok(false);
+    };
+    if letter.len_utf8() != width {
+        return Ok(false);
+    }
+    let mut buffer = [0; 4];
+    spelled.extend_from_slice(letter.encode_utf8(&mut buffer).as_bytes())?;
+    Ok(true)
+}
+
+/// Adds what is put in the place of a character beyond ASCII of so many bytes, if it is simple. These bytes come after it; a quote or
+/// a dash that they begin with again is not.
+#[tactic(auto, using(crate::proofs::WideBytes::blank_added, crate::proofs::WideBytes::quote_added, crate::proofs::WideBytes::dash_added, crate::proofs::WideBytes::blank_simple, crate::proofs::WideBytes::quote_simple, crate::proofs::WideBytes::dash_simple))]
+fn push_simple(
+    alloc: Global,
+    spelled: &mut Vec<u8>,
+    c: char,
+    width: usize,
+    after: &[u8],
+) -> Result<bool, AllocError>
+    requires beyond { 128 ≤ c }
+    requires width { width ≡ len_utf8 c }
+    requires few { width ≤ 3 }
+    ensures simple { IfOk result (λ known. IsTrue known → IsSimple c) }
+    ensures alone { IfOk result (λ known. IsTrue known → kind_of c ≡ Kind.Mark → IsNoFront (encode_utf8 c) after.now) }
+    ensures added { IfOk result (λ known. IsTrue known → spelled.new.items ≡ spelled.old.items ++ in_place c) }
+    ensures same { IfOk result (λ known. known ≡ false → spelled.new.items ≡ spelled.old.items) }
+{
+    match kind_of(c) {
+        Kind::Word => return push_letter(alloc, spelled, c, width),
+        Kind::Blank => push_times(spelled, b' ', width)?,
+        Kind::Mark if is_front(c, after) => return Ok(false),
+        Kind::Mark if is_quote(c) => push_times(spelled, b'\'', width)?,
+        Kind::Mark if is_dash(c) => push_times(spelled, b'-', width)?,
+        _ => return Ok(false),
+    }
+    Ok(true)
+}
+
+/// Adds what is put in the place of the character beyond ASCII at the start of these bytes, if there is one and it is simple. The
+/// answer is how many bytes it has, or 0.
+#[inline(never)]
+fn push_first(alloc: Global, spelled: &mut Vec<u8>, bytes: &[u8]) -> Result<usize, AllocError>
+    ensures put { IfOk result (λ n. 0 < n → ArePut bytes.now n spelled.old.items spelled.new.items) }
+    ensures same { IfOk result (λ n. n ≡ 0 → spelled.new.items ≡ spelled.old.items) }
+{
+    let Some(c) = first_char(bytes) else {
+        return Ok(0);
+    };
+    let width = c.len_utf8();
+    if push_simple(alloc, spelled, c, width, &bytes[width..])? {
+        Ok(width)
+    } else {
+        Ok(0)
+    }
+}
+
+/// Adds what is put in the place of some characters at the start of these bytes, as many as stay as they are, or one that is simple.
+/// The answer is how many bytes they have, or 0.
+#[inline(always)]
+fn push_some(alloc: Global, spelled: &mut Vec<u8>, bytes: &[u8]) -> Result<usize, AllocError>
+    ensures put { IfOk result (λ n. 0 < n → ArePut bytes.now n spelled.old.items spelled.new.items) }
+    ensures same { IfOk result (λ n. n ≡ 0 → spelled.new.items ≡ spelled.old.items) }
+{
+    let own = own_front(bytes);
+    if own == 0 {
+        return push_first(alloc, spelled, bytes);
+    }
+    spelled.extend_from_slice(&bytes[..own])?;
+    Ok(own)
+}
+
+/// Adds what simple characters at the start of these bytes are spelled by, byte for byte. The answer is how many bytes these
+/// characters have.
+///
+/// # Errors
+/// Memory ran out. What was added is then not said.
+pub fn spell_front(alloc: Global, spelled: &mut Vec<u8>, bytes: &[u8]) -> Result<usize, AllocError>
+    ensures { IfOk result (λ n. ArePut bytes.now n spelled.old.items spelled.new.items) }
+{
+    let mut at = 0;
+    while at < bytes.len() {
+        let count = push_some(alloc, spelled, &bytes[at..])?;
+        if count == 0 {
+            return Ok(at);
+        }
+        at += count;
+    }
+    Ok(at)
+}
