@@ -3,8 +3,8 @@
 what the proofs leave of the cores.
 
 `rt ci` alone lets edits of lower crates take cores from the upper ones that wait to be proved, so the longest chain of crates gets one core.
-Here the chain has all cores that it can use. What is proved and tried is kept by rt: the gate itself, which runs after this, does what is
-left."""
+Here the chain has all cores that it can use, and of the edits those are tried first whose crate took longest. What is proved and tried is kept
+by rt: the gate itself, which runs after this, does what is left. Where a crate fails, no more edits are tried, and what was said of it comes last."""
 import os
 import queue
 import shutil
@@ -19,6 +19,8 @@ from proving import Proving, copy_crates, minutes, say
 TOP = os.path.dirname(os.path.dirname(os.path.dirname(os.path.realpath(__file__))))
 # a trial of edits takes up to two of these
 MEMORY_OF_A_CHECK = 3_000_000_000
+# so many bytes of what is said of a crate that failed tell what is wrong
+END = 8_000
 
 
 def workers():
@@ -46,27 +48,30 @@ def try_edits(name, start):
     say(f"edits of {name} tried ({minutes(start)})")
 
 
-def work(names, start):
-    while (name := names.get()) is not None:
-        try_edits(name, start)
+def work(names, proving):
+    while name := names.get()[1]:
+        if not proving.faults:
+            try_edits(name, proving.start)
 
 
 def main():
-    names = queue.Queue()
+    # the crates that are proved, by the seconds that it took (less comes first), and no crate once all are
+    names = queue.PriorityQueue()
     with tempfile.TemporaryDirectory(prefix="licscan-proofs-") as folder:
-        proving = Proving(TOP, list(read_crates(TOP)), f"{folder}/proofs.log", names.put)
-        threads = [threading.Thread(target=work, args=(names, proving.start)) for _ in range(workers())]
+        proving = Proving(TOP, list(read_crates(TOP)), f"{folder}/proofs.log", lambda name, seconds: names.put((-seconds, name)))
+        threads = [threading.Thread(target=work, args=(names, proving)) for _ in range(workers())]
         for thread in threads:
             thread.start()
         is_proved = proving.run()
-        if not is_proved:
-            with open(proving.log, "rb") as file:
-                sys.stdout.buffer.write(file.read())
     say(f"the proofs took {minutes(proving.start)}")
     for _ in threads:
-        names.put(None)
+        names.put((1, ""))
     for thread in threads:
         thread.join()
+    for name, said in proving.faults:
+        sys.stdout.buffer.write(said[-END:])
+        sys.stdout.flush()
+        say(f"{name} is not proved, or its tests or its run failed")
     return 0 if is_proved else 1
 
 

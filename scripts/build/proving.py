@@ -129,20 +129,21 @@ def workers():
 
 
 class Proving:
-    """Proves the crates of these names and those below them. `when_proved` is called with each crate's name."""
+    """Proves the crates of these names and those below them. `when_proved` is called with each crate's name and the seconds that it took.
+    `faults` has, of each crate that failed, its name and what was said of it."""
 
-    def __init__(self, top, names, log, when_proved=lambda name: None):
+    def __init__(self, top, names, log, when_proved=lambda name, seconds: None):
         self.top, self.log, self.when_proved, self.start = top, log, when_proved, time.monotonic()
         self.crates = read_crates(top)
         self.all = from_the_ground(self.crates, names)
         self.chains = chains_above(top, self.crates, names)
         self.left, self.begun, self.proved = set(self.all), set(), set()
-        self.functions, self.has_failed, self.change = 0, False, threading.Condition()
+        self.functions, self.faults, self.change = 0, [], threading.Condition()
 
     def take(self):
         """The next crate whose libraries are proved, and how nice its proof is to the others, or None where none is left."""
         with self.change:
-            while self.left and not self.has_failed:
+            while self.left and not self.faults:
                 ready = [name for name in self.left if self.proved.issuperset(self.crates[name])]
                 if ready:
                     name = max(ready, key=self.chains.get)
@@ -154,18 +155,20 @@ class Proving:
             return None
 
     def prove(self, name, nice):
+        start = time.monotonic()
         status, said = prove_apart(self.top, self.crates, name, nice)
         with self.change:
             with open(self.log, "ab") as file:
                 file.write(said)
-            self.has_failed |= status != 0
+            if status:
+                self.faults.append((name, said))
             self.proved.add(name)
             self.functions += int((FUNCTIONS.findall(said) or [0])[-1])
-            if not self.has_failed:
+            if not self.faults:
                 say(f"{len(self.proved)} of {len(self.all)} crates proved ({name}; {self.functions} functions so far; {minutes(self.start)})")
             self.change.notify_all()
         if not status:
-            self.when_proved(name)
+            self.when_proved(name, time.monotonic() - start)
 
     def work(self):
         while taken := self.take():
@@ -180,4 +183,4 @@ class Proving:
         self.work()
         for thread in beside:
             thread.join()
-        return not self.has_failed
+        return not self.faults
