@@ -24,7 +24,7 @@ END = 8_000
 
 
 def workers():
-    """How many crates' edits are tried at a time, with memory left for the proofs."""
+    """How many crates' edits are tried at a time once all is proved: before that it is one, so that the proofs have the memory."""
     memory = os.sysconf("SC_PAGE_SIZE") * os.sysconf("SC_PHYS_PAGES")
     return max(1, min(os.cpu_count() or 1, memory // (2 * MEMORY_OF_A_CHECK) - 1))
 
@@ -59,13 +59,15 @@ def main():
     names = queue.PriorityQueue()
     with tempfile.TemporaryDirectory(prefix="licscan-proofs-") as folder:
         proving = Proving(TOP, list(read_crates(TOP)), f"{folder}/proofs.log", lambda name, seconds: names.put((-seconds, name)))
-        threads = [threading.Thread(target=work, args=(names, proving)) for _ in range(workers())]
-        for thread in threads:
-            thread.start()
+        first, *others = [threading.Thread(target=work, args=(names, proving)) for _ in range(workers())]
+        first.start()
         is_proved = proving.run()
     say(f"the proofs took {minutes(proving.start)}")
+    threads = [first, *others]
     for _ in threads:
         names.put((1, ""))
+    for thread in others:
+        thread.start()
     for thread in threads:
         thread.join()
     for name, said in proving.faults:
