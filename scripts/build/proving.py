@@ -157,6 +157,9 @@ class Proving:
     def prove(self, name, nice):
         start = time.monotonic()
         status, said = prove_apart(self.top, self.crates, name, nice)
+        if status:
+            # once more: the system may have killed it for memory, and the gate's own run judges what passes now
+            status, said = prove_apart(self.top, self.crates, name, nice)
         with self.change:
             with open(self.log, "ab") as file:
                 file.write(said)
