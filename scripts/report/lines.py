@@ -20,9 +20,9 @@ STREAK = re.compile(rb"[a-z0-9+](-{3,}|\.{3,}|\+{3,})[a-z0-9]", re.IGNORECASE)
 LONGEST = 200
 # names of Debian and older ones, of tags and fields
 OLDER = re.compile(r"([AL]?GPL|GFDL)-?v?(\d)(\.\d)?(\+?)$", re.IGNORECASE)
-SAME = {"Expat": "MIT", "Apache-2": "Apache-2.0", "Apache2": "Apache-2.0", "BSD3": "BSD-3-Clause",
+SAME = {"Expat": "MIT", "Apache-2": "Apache-2.0", "Apache2": "Apache-2.0", "EPL-1": "EPL-1.0", "BSD3": "BSD-3-Clause",
         "BSD-2": "BSD-2-Clause", "BSD-3": "BSD-3-Clause", "BSD_2_clause": "BSD-2-Clause", "BSD_3_clause": "BSD-3-Clause"}
-FAMILIES = ("AGPL", "Apache", "Artistic", "BSD", "GFDL", "GPL", "LGPL")
+FAMILIES = ("AFL", "AGPL", "Apache", "Artistic", "BSD", "CDDL", "EPL", "GFDL", "GPL", "LGPL", "MPL")
 
 
 @dataclass

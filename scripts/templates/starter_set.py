@@ -54,7 +54,7 @@ SHORTEST_TEXT = 7
 SUFFIX = re.compile("-(identifier|field|notice)(-[b-z])?(-dot)?$|(?<=-mention)-[b-z]$")
 
 # fields that tags.py does not make: in words, of CPAN, classifiers of Python packages, choices
-BY_HAND = re.compile(r"^License|perl|[a-z]_[0-9]|=>|OSI Approved| (OR|AND)\b|\w/|>>/|, ['\"]$", re.M)
+BY_HAND = re.compile(r"^Licen[cs]e|perl|[a-z]_[0-9]|=>|OSI Approved| (OR|AND)\b|\w/|>>/|, ['\"]$", re.M)
 
 # sentences, what is said of them by the templates of grants, and by those of mentions where that is nothing
 SENTENCES = [
@@ -127,6 +127,37 @@ SENTENCES = [
     ("a GPL-compatible licence", ["no-grant-mention"], []),
     ("Compare the MIT License", [], ["MIT-mention"]),
     ("License: Redistribution and use in source and binary forms, with or without modification, are permitted", ["BSD", "no-grant-mention"], []),
+    ("Licensed under the Academic Free License version 3.0", ["AFL-3.0"], []),
+    ("Licensed under the Academic Free License version 2.1", ["AFL-2.1"], []),
+    ("available under the terms of the Academic Free License (AFL), Version 2.0", ["AFL-2.0"], []),
+    ("released under the Academic Free License", ["AFL"], []),
+    ("License :: OSI Approved :: Academic Free License (AFL)", ["AFL"], []),
+    ("\"license\": \"AFL-3.0\",", ["AFL-3.0"], []),
+    ("Compare the Academic Free License", [], ["AFL-mention"]),
+    ("It is not licensed under the Academic Free License", ["no-grant-mention"], []),
+    ("Licensed under the Apache License", ["Apache"], []),
+    ("distributed under the Artistic License", ["Artistic"], []),
+    ("distributed under the Artistic License, version 2.0", ["Artistic-2.0"], []),
+    ("released under the CeCILL-C license", ["CECILL-C"], []),
+    ("The contents of this file are subject to the terms of the Common Development and Distribution License (the \"License\").", ["CDDL"], []),
+    ("subject to the terms of the\n# Common Development and Distribution License, Version 1.0 only", ["CDDL-1.0"], []),
+    ("licensed under the terms of the Eclipse Public License (EPL).", ["EPL"], []),
+    ("are made available under the terms of the Eclipse Public License v1.0", ["EPL-1.0"], []),
+    ("are made available under the terms of the Eclipse Public License - v 2.0", ["EPL-2.0"], []),
+    ("License :: OSI Approved :: Eclipse Public License 2.0 (EPL-2.0)", ["EPL-2.0"], []),
+    ("License: EPL-1", ["EPL-1"], []),
+    ("available under the GNU Free Documentation License", ["GFDL"], []),
+    ("released under the GNU Free Documentation License version 1.3", ["GFDL-1.3"], []),
+    ("released under the GNU Free Documentation License, version 1.3 or later", ["GFDL-1.3-or-later"], []),
+    ("\"license\": \"MIT-0\",", ["MIT-0"], []),
+    ("Distributed under the MIT-0 license", ["MIT-0"], []),
+    ("Licensed under the Mozilla Public License", ["MPL"], []),
+    ("Licensed under the Mozilla Public License, version 1.1", ["MPL-1.1"], []),
+    ("released under the PHP License, version 3.01", ["PHP-3.01"], []),
+    ("Licensed under the Python Software Foundation License", ["PSF-2.0"], []),
+    ("// Licence:     wxWindows licence", ["wxWindows"], []),
+    ("License :: OSI Approved :: The Unlicense (Unlicense)", ["Unlicense"], []),
+    ("License :: OSI Approved :: zlib/libpng License", ["Zlib"], []),
     ("the new BSD limits", [], []),
     ("emit limit transmit", [], []),
     ("its GPL code", [], []),

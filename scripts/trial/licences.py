@@ -8,7 +8,7 @@ SAME = {
     "bsd-4": "bsd-4-clause", "boost-1.0": "bsl-1", "boost": "bsl-1", "bsl": "bsl-1", "asl-2.0": "apache-2", "asl2": "apache-2", "python": "psf-2", "python-2.0": "psf-2", "psf": "psf-2", "libpng-2": "libpng", "zlib/libpng": "zlib",
     "bsd2": "bsd-2-clause", "perl": "artistic", "ntp": "hpnd", "lgpl-2.0": "lgpl-2", "cc0": "cc0-1", "wtfpl-2": "wtfpl", "fsf-unlimited": "fsfullr", "fsful": "fsfullr",
 }
-FAMILIES = "agpl lgpl gpl gfdl apache mpl artistic bsd cc-by-sa cc-by cddl cecill epl ofl".split()
+FAMILIES = "afl agpl lgpl gpl gfdl apache mpl artistic bsd cc-by-sa cc-by cddl cecill epl ofl".split()
 SUFFIX = re.compile(r"-(identifier|field|notice|mention)(-[b-z])?(-dot)?$")
 
 
