@@ -28,9 +28,9 @@ use Rattle.lic_load.specs.Listings.{count_of_names}
 use Rattle.lic_load.specs.Loading.{AreRulesOfFile, IsListOfFile, IsLoaded}
 use Rattle.lic_load.specs.declared.fault.LoadFault.{LoadFault}
 use Rattle.lic_load.specs.declared.templates.Listing.{Listing}
-use Rattle.lic_command.specs.Commands.{AreLoaded, AreRulesFor, HasChecked, HasEnded, HasListed, HasScanned, IsListFor}
+use Rattle.lic_command.specs.Commands.{AreRulesFor, HasChecked, HasEnded, HasListed, HasScanned, IsListFor}
 use Rattle.lic_command.specs.Commands.HasEnded.{helped, stopped}
-use Rattle.lic_command.specs.Lines.{AreWritten}
+use Rattle.lic_command.specs.Lines.{AreWritten, Input}
 use Rattle.lic_command.specs.Outcomes.{CountsStops, IsStopAfter, StopsForWrites}
 use Rattle.lic_command.specs.Statuses.{IsStatus, IsStatusOfCheck}
 use Rattle.lic_command.specs.Reporting.{AreReported, IsStopReported}
@@ -139,7 +139,7 @@ check_counts old new (Err fault.Memory) b (Err stop) is counts = subst (λ s. Co
 
 -- ---- what is done
 
-module _ (found : Found) (progress : Progress) (out_old out_new err_old err_new : Option (List ℕ)) (failed_old failed_new : ℕ) where
+module _ (found : Found) (progress : Progress) (in_old in_new : Input) (out_old out_new err_old err_new : Option (List ℕ)) (failed_old failed_new : ℕ) where
   pub scan_done : (err_mid : Option (List ℕ)) (failed_mid : ℕ) (search : Search) (listing : Listing) (is_left_out : Bool) (all : Bool) (limit : Option ℕ)
       (after : Option After) (names : List (Bor (List ℕ))) (written : Written) (status : ℕ)
       → AreRulesFor found (rules_of search.rules.now) → IsListFor found search.words.now
@@ -149,10 +149,10 @@ module _ (found : Found) (progress : Progress) (out_old out_new err_old err_new 
       → ((given : Given) × IsGiven found (length names) given × IsAsGiven given after)
       → IsTripleOf search.set.now after search.ask.now.after
       → map (λ f. f.now) names ≡ files_in found
-      → ((refused : List (List ℕ)) × AreWritten (Scan search) out_old (map (λ name. name.now) names) refused out_new written
+      → ((refused : List (List ℕ)) × AreWritten (Scan search) in_old out_old (map (λ name. name.now) names) refused in_new out_new written
       × (progress ≡ Hidden → AreReported err_mid failed_mid refused err_new failed_new))
       → IsStatus (written.is_refused || is_left_out) written.has_line status
-      → HasScanned found progress out_old out_new err_old err_new failed_old failed_new status
+      → HasScanned found progress in_old in_new out_old out_new err_old err_new failed_old failed_new status
   scan_done err_mid failed_mid search listing is_left_out all limit after names written status rules words loaded left_out flag same_all is_limit
       same_limit given triple files lines ends = record {
         search = search;
@@ -173,7 +173,7 @@ module _ (found : Found) (progress : Progress) (out_old out_new err_old err_new 
           named = given.2;
           triple = triple;
         };
-        lines = subst (λ ns. AreWritten (Scan search) out_old ns lines.0 out_new written) files lines.1;
+        lines = subst (λ ns. AreWritten (Scan search) in_old out_old ns lines.0 in_new out_new written) files lines.1;
         reported = lines.2;
         ends = ends;
       }
@@ -185,10 +185,10 @@ module _ (found : Found) (progress : Progress) (out_old out_new err_old err_new 
   pub tokens_done : (rules : Bor Rules) (words : Bor (List Phrase)) (names : List (Bor (List ℕ))) (written : Written) (status : ℕ)
       → AreRulesFor found (rules_of rules.now) → IsListFor found words.now
       → map (λ f. f.now) names ≡ files_in found
-      → ((refused : List (List ℕ)) × AreWritten (Tokens words rules) out_old (map (λ name. name.now) names) refused out_new written
+      → ((refused : List (List ℕ)) × AreWritten (Tokens words rules) in_old out_old (map (λ name. name.now) names) refused in_new out_new written
       × (progress ≡ Hidden → AreReported err_old failed_old refused err_new failed_new))
       → IsStatus (written.is_refused || false) written.has_line status
-      → HasListed found progress out_old out_new err_old err_new failed_old failed_new status
+      → HasListed found progress in_old in_new out_old out_new err_old err_new failed_old failed_new status
   tokens_done rules words names written status for_rules for_words files lines ends = record {
     rules = rules;
     words = words;
@@ -196,11 +196,12 @@ module _ (found : Found) (progress : Progress) (out_old out_new err_old err_new 
     written = written;
     rules_for = for_rules;
     words_for = for_words;
-    lines = subst (λ ns. AreWritten (Tokens words rules) out_old ns lines.0 out_new written) files lines.1;
+    lines = subst (λ ns. AreWritten (Tokens words rules) in_old out_old ns lines.0 in_new out_new written) files lines.1;
     reported = lines.2;
     ends = subst (λ b. IsStatus b written.has_line status) (or_false written.is_refused) ends;
   }
 
+module _ (found : Found) (out_old out_new err_old err_new : Option (List ℕ)) (failed_old failed_new : ℕ) where
   pub check_done : (rules : LineRules) (words : List Phrase) (set : List Known) (answer : Result Bool RunFault) (listing : Listing) (is_left_out : Bool)
       (r : Result ℕ Stop) → IsStatusOfCheck answer is_left_out r
       → IfOk answer (λ all. (checked : List Checked) × (lines : List ℕ) × IsCheckReport rules set words checked lines × Appends out_old out_new lines
@@ -229,32 +230,32 @@ module _ (found : Found) (progress : Progress) (out_old out_new err_old err_new 
 -- help that is shown is what the arguments asked for, whatever is shown of the program's progress
 pub help_ended : (old new err : Option (List ℕ)) (failed_old failed_new failed : ℕ) (text : List ℕ) (kind : ErrorKind) → ¬ (IsFault kind)
     → (r : Result ℕ Stop) → IsShown old new failed_old failed_new text r
-    → IfOk r (λ status. (args : List (List ℕ)) → (progress : Progress) → IsNoCall args kind
-    → HasEnded args progress old new err err failed failed status)
+    → IfOk r (λ status. (args : List (List ℕ)) → (progress : Progress) → (input : Input) → IsNoCall args kind
+    → HasEnded args progress input input old new err err failed failed status)
 help_ended old new err failed_old failed_new failed text kind help (Ok status) shown =
-    λ args progress no_call. helped kind no_call help text shown.0 refl refl shown.2
+    λ args progress input no_call. helped kind no_call help text shown.0 refl refl refl shown.2
 help_ended old new err failed_old failed_new failed text kind help (Err stop) shown = tt
 
 -- what is written for these arguments is for arguments of their kind, but where memory ran out
-pub usage_ended : (out_old out_new err_old err_new : Option (List ℕ)) (failed_old failed_new : ℕ) (args : List (List ℕ)) (progress : Progress)
-    (kind : ErrorKind) (r : Result ℕ Stop) → (kind ≡ OutOfMemory → r ≡ Err Memory) → (kind ≢ OutOfMemory → IsNoCall args kind)
-    → IfOk r (λ status. (args : List (List ℕ)) → (progress : Progress) → IsNoCall args kind
-    → HasEnded args progress out_old out_new err_old err_new failed_old failed_new status)
-    → IfOk r (HasEnded args progress out_old out_new err_old err_new failed_old failed_new)
-usage_ended out_old out_new err_old err_new failed_old failed_new args progress kind (Ok status) memory no_call ended =
-    ended args progress (no_call (λ is. subst (λ (r : Result ℕ Stop). IfErr r (λ stop. ⊥)) (memory is) tt))
-usage_ended out_old out_new err_old err_new failed_old failed_new args progress kind (Err stop) memory no_call ended = tt
+pub usage_ended : (input : Input) (out_old out_new err_old err_new : Option (List ℕ)) (failed_old failed_new : ℕ) (args : List (List ℕ))
+    (progress : Progress) (kind : ErrorKind) (r : Result ℕ Stop) → (kind ≡ OutOfMemory → r ≡ Err Memory) → (kind ≢ OutOfMemory → IsNoCall args kind)
+    → IfOk r (λ status. (args : List (List ℕ)) → (progress : Progress) → (input : Input) → IsNoCall args kind
+    → HasEnded args progress input input out_old out_new err_old err_new failed_old failed_new status)
+    → IfOk r (HasEnded args progress input input out_old out_new err_old err_new failed_old failed_new)
+usage_ended input out_old out_new err_old err_new failed_old failed_new args progress kind (Ok status) memory no_call ended =
+    ended args progress input (no_call (λ is. subst (λ (r : Result ℕ Stop). IfErr r (λ stop. ⊥)) (memory is) tt))
+usage_ended input out_old out_new err_old err_new failed_old failed_new args progress kind (Err stop) memory no_call ended = tt
 
 -- what the program has done follows from what its work has done, or from the last line
-pub ended : (args : List (List ℕ)) (out_old out_new err_old err_mid err_new : Option (List ℕ)) (failed_old failed_mid failed_new : ℕ)
-    (progress : Progress) (status : ℕ)
-    (outcome : Result ℕ Stop) → IfOk outcome (HasEnded args progress out_old out_new err_old err_mid failed_old failed_mid)
+pub ended : (args : List (List ℕ)) (in_old in_new : Input) (out_old out_new err_old err_mid err_new : Option (List ℕ))
+    (failed_old failed_mid failed_new : ℕ) (progress : Progress) (status : ℕ)
+    (outcome : Result ℕ Stop) → IfOk outcome (HasEnded args progress in_old in_new out_old out_new err_old err_mid failed_old failed_mid)
     → ((s : ℕ) → outcome ≡ Ok s → status ≡ s) → ((s : ℕ) → outcome ≡ Ok s → (err_new ≡ err_mid) × (failed_new ≡ failed_mid))
     → (IsErr outcome → status ≡ 2) → (IsErr outcome → IsStopReported err_new failed_new)
-    → HasEnded args progress out_old out_new err_old err_new failed_old failed_new status
-ended args out_old out_new err_old err_mid err_new failed_old failed_mid failed_new progress status (Ok s) has done same two reported =
-    subst (λ s. HasEnded args progress out_old out_new err_old err_new failed_old failed_new s) (sym (done s refl))
-    (subst (λ n. HasEnded args progress out_old out_new err_old err_new failed_old n s) (sym (same s refl).1)
-    (subst (λ err. HasEnded args progress out_old out_new err_old err failed_old failed_mid s) (sym (same s refl).0) has))
-ended args out_old out_new err_old err_mid err_new failed_old failed_mid failed_new progress status (Err stop) has done same two reported =
+    → HasEnded args progress in_old in_new out_old out_new err_old err_new failed_old failed_new status
+ended args in_old in_new out_old out_new err_old err_mid err_new failed_old failed_mid failed_new progress status (Ok s) has done same two reported =
+    subst (λ s. HasEnded args progress in_old in_new out_old out_new err_old err_new failed_old failed_new s) (sym (done s refl))
+    (subst (λ n. HasEnded args progress in_old in_new out_old out_new err_old err_new failed_old n s) (sym (same s refl).1)
+    (subst (λ err. HasEnded args progress in_old in_new out_old out_new err_old err failed_old failed_mid s) (sym (same s refl).0) has))
+ended args in_old in_new out_old out_new err_old err_mid err_new failed_old failed_mid failed_new progress status (Err stop) has done same two reported =
     stopped (reported refl) (two refl)

@@ -1,14 +1,14 @@
 -- From the clauses of a scan to what was written about a file.
-use Rattle.std.proofs.Common.{◌≡◌, ◌⊎◌, ℕ, ◌+◌, ◌<◌, Bool, List, length, map, take, get_or, Option, Result, Ok, Err, IfOk, OnErr, IsErrOf, nat_lt, inl, inr, refl, sym, ap, subst, ◌∙◌, ◌++◌, append-nil}
+use Rattle.std.proofs.Common.{◌≡◌, ℕ, ◌+◌, ◌<◌, Bool, List, length, map, take, get_or, Option, Result, Ok, Err, IfOk, OnErr, IsErrOf, nat_lt, refl, sym, subst, ◌∙◌, ◌++◌, append-nil}
 use Rattle.std.specs.Borrow.{Bor}
 use Rattle.std.specs.Io.KnownBytes.{Appends}
 use Rattle.std.proofs.lemmas.List.{map_more, take-map}
-use Rattle.lic_engine.specs.Failures.{CountsWrites, Keeps}
+use Rattle.lic_engine.specs.Failures.{CountsWrites}
 use Rattle.lic_engine.specs.Inputs.{IsAccepted}
 use Rattle.lic_engine.specs.Stream.{BeginsWith}
 use Rattle.lic_engine.specs.declared.fault.RunFault.{RunFault}
 use Rattle.lic_engine.specs.declared.fault.RunFault.TheVariants.{Text, Read, Write, Memory}
-use Rattle.lic_command.specs.Lines.{AreBegun, AreLinesOf, AreWritten, HasWritten}
+use Rattle.lic_command.specs.Lines.{AreBegun, AreWritten, HasRead, HasWritten, Input}
 use Rattle.lic_command.specs.Lines.AreWritten.{one_more}
 use Rattle.lic_command.specs.Outcomes.{IsWithOneMore, refused_by}
 use Rattle.lic_command.specs.Reporting.{AreReported, IsAnswerReported}
@@ -30,24 +30,25 @@ module _ (a b u v : Option (List ℕ)) (lines_of : List ℕ → List ℕ) where
   part_lines w = (w.0, w.1, λ lines e. subst (BeginsWith u v) (sym e) w.2)
 
 -- one file more
-pub written_more : {old mid new : Option (List ℕ)} {before after : Written} {refused : List (List ℕ)} (answer : Result Bool RunFault) (work : Work)
-    (names : List (Bor (List ℕ))) (k : ℕ) (d : Bor (List ℕ)) → k < length names
-    → AreWritten work old (map (λ name. name.now) (take k names)) refused mid before
-    → HasWritten work (get_or names k d).now mid new answer → IsWithOneMore before answer after
-    → AreWritten work old (map (λ name. name.now) (take (k + 1) names)) (refused ++ refused_by (get_or names k d).now answer) new after
-written_more {old} {mid} {new} {before} {after} {refused} answer work names k d within written more one =
-    subst (λ ns. AreWritten work old ns (refused ++ refused_by (get_or names k d).now answer) new after)
+pub written_more : {in_old in_mid in_new : Input} {old mid new : Option (List ℕ)} {before after : Written} {refused : List (List ℕ)}
+    (answer : Result Bool RunFault) (work : Work) (names : List (Bor (List ℕ))) (k : ℕ) (d : Bor (List ℕ)) → k < length names
+    → AreWritten work in_old old (map (λ name. name.now) (take k names)) refused in_mid mid before
+    → HasRead (get_or names k d).now in_mid in_new answer → HasWritten work (get_or names k d).now in_mid in_new mid new answer
+    → IsWithOneMore before answer after
+    → AreWritten work in_old old (map (λ name. name.now) (take (k + 1) names)) (refused ++ refused_by (get_or names k d).now answer) in_new new after
+written_more {in_old} {in_mid} {in_new} {old} {mid} {new} {before} {after} {refused} answer work names k d within written read more one =
+    subst (λ ns. AreWritten work in_old old ns (refused ++ refused_by (get_or names k d).now answer) in_new new after)
     (sym (map_more (λ name. name.now) names k d within))
-    (one_more (get_or names k d).now answer written more one)
+    (one_more (get_or names k d).now answer written read more one)
 
 -- the work stops after so many files
-pub begun : {old new : Option (List ℕ)} {written : Written} {refused : List (List ℕ)} (r : Result Written Stop) (work : Work)
+pub begun : {in_old in_new : Input} {old new : Option (List ℕ)} {written : Written} {refused : List (List ℕ)} (r : Result Written Stop) (work : Work)
     (names : List (Bor (List ℕ))) (k : ℕ)
-    → AreWritten work old (map (λ name. name.now) (take k names)) refused new written
-    → OnErr r (AreBegun work old (map (λ name. name.now) names) new)
+    → AreWritten work in_old old (map (λ name. name.now) (take k names)) refused in_new new written
+    → OnErr r (AreBegun work in_old old (map (λ name. name.now) names) in_new new)
 begun (Ok x) work names k are = tt
-begun {old} {new} {written} {refused} (Err stop) work names k are =
-    (k, refused, written, subst (λ ns. AreWritten work old ns refused new written) (sym (take-map (λ name. name.now) k names)) are)
+begun {in_old} {in_new} {old} {new} {written} {refused} (Err stop) work names k are =
+    (k, refused, written, subst (λ ns. AreWritten work in_old old ns refused in_new new written) (sym (take-map (λ name. name.now) k names)) are)
 
 -- a line about one file more, if it is refused
 pub reported_more : {old mid new : Option (List ℕ)} {failed_old failed_mid failed_new : ℕ} (refused : List (List ℕ)) (name : List ℕ)

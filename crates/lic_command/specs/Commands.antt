@@ -1,5 +1,5 @@
 -- What a command has done where its work is done, and what the program has done.
-use Rattle.std.specs.Prelude.{◌≡◌, ◌↔◌, ◌||◌, ℕ, ◌<◌, Bool, true, codes, List, [], length, Option, None, Some, IsSome}
+use Rattle.std.specs.Prelude.{◌≡◌, ◌↔◌, ◌||◌, ℕ, ◌<◌, Bool, true, codes, List, [], length, Option, None, IsSome}
 use Rattle.std.specs.Borrow.{Bor}
 use Rattle.std.specs.List.{list_all}
 use Rattle.std.specs.Io.KnownBytes.{Appends}
@@ -21,12 +21,11 @@ use Rattle.lic_load.specs.Listings.{count_of_names}
 use Rattle.lic_load.specs.Loading.{AreRulesOfFile, IsListOfFile, IsLoaded}
 use Rattle.lic_load.specs.Reporting.{IsReported}
 use Rattle.lic_load.specs.declared.templates.Listing.{Listing}
-use Rattle.lic_command.specs.Lines.{AreWritten}
+use Rattle.lic_command.specs.Lines.{AreWritten, Input}
 use Rattle.lic_command.specs.Statuses.{IsStatus}
 use Rattle.lic_command.specs.Reporting.{AreReported, IsStopReported}
 use Rattle.lic_command.specs.Usage.{IsFault}
 use Rattle.lic_command.specs.declared.files.Search.{Search}
-use Rattle.lic_command.specs.declared.files.Work.{Work}
 use Rattle.lic_command.specs.declared.files.Work.TheVariants.{Scan, Tokens}
 use Rattle.lic_command.specs.declared.files.Written.{Written}
 use Rattle.lic_command.specs.declared.progress.Progress.{Progress}
@@ -65,8 +64,8 @@ pub record IsAskFor (found : Found) (search : Search) : Type 0 where
 
 -- `scan`: the reports of the files are written, each refused one is reported after the templates that are left out, and the status is the
 -- one that follows
-pub record HasScanned (found : Found) (progress : Progress) (out_old out_new err_old err_new : Option (List ℕ)) (failed_old failed_new : ℕ)
-    (status : ℕ) : Type 0 where
+pub record HasScanned (found : Found) (progress : Progress) (in_old in_new : Input) (out_old out_new err_old err_new : Option (List ℕ))
+    (failed_old failed_new : ℕ) (status : ℕ) : Type 0 where
   pub search : Search
   pub is_left_out : Bool
   pub refused : List (List ℕ)
@@ -77,20 +76,20 @@ pub record HasScanned (found : Found) (progress : Progress) (out_old out_new err
   pub words : IsListFor found search.words.now
   pub templates : AreLoaded (rules_of search.rules.now) search.words.now search.set.now is_left_out err_old mid failed_old failed_mid
   pub ask : IsAskFor found search
-  pub lines : AreWritten (Scan search) out_old (files_in found) refused out_new written
+  pub lines : AreWritten (Scan search) in_old out_old (files_in found) refused in_new out_new written
   pub reported : progress ≡ Hidden → AreReported mid failed_mid refused err_new failed_new
   pub ends : IsStatus (written.is_refused || is_left_out) written.has_line status
 
 -- `tokens`: the lines of the tokens are written, each refused file is reported, and the status is the one that follows
-pub record HasListed (found : Found) (progress : Progress) (out_old out_new err_old err_new : Option (List ℕ)) (failed_old failed_new : ℕ)
-    (status : ℕ) : Type 0 where
+pub record HasListed (found : Found) (progress : Progress) (in_old in_new : Input) (out_old out_new err_old err_new : Option (List ℕ))
+    (failed_old failed_new : ℕ) (status : ℕ) : Type 0 where
   pub rules : Bor Rules
   pub words : Bor (List Phrase)
   pub refused : List (List ℕ)
   pub written : Written
   pub rules_for : AreRulesFor found (rules_of rules.now)
   pub words_for : IsListFor found words.now
-  pub lines : AreWritten (Tokens words rules) out_old (files_in found) refused out_new written
+  pub lines : AreWritten (Tokens words rules) in_old out_old (files_in found) refused in_new out_new written
   pub reported : progress ≡ Hidden → AreReported err_old failed_old refused err_new failed_new
   pub ends : IsStatus written.is_refused written.has_line status
 
@@ -111,23 +110,23 @@ pub record HasChecked (found : Found) (out_old out_new err_old err_new : Option 
 
 -- What the program has done on these arguments where it ends with this status: they are a call of a command, whose work is done; or they ask
 -- for help or for the version, which is shown; or they are at fault, which is reported; or it ends before its work is done, and the last line
--- says why.
-pub data HasEnded (args : List (List ℕ)) (progress : Progress) (out_old out_new err_old err_new : Option (List ℕ)) (failed_old failed_new : ℕ)
-    (status : ℕ) : Type 0 where
+-- says why. Standard input is read where a command reads files, and else not.
+pub data HasEnded (args : List (List ℕ)) (progress : Progress) (in_old in_new : Input) (out_old out_new err_old err_new : Option (List ℕ))
+    (failed_old failed_new : ℕ) (status : ℕ) : Type 0 where
   scanned : (found : Found) → IsCall args (codes "scan") found
-      → HasScanned found progress out_old out_new err_old err_new failed_old failed_new status
-      → HasEnded args progress out_old out_new err_old err_new failed_old failed_new status
+      → HasScanned found progress in_old in_new out_old out_new err_old err_new failed_old failed_new status
+      → HasEnded args progress in_old in_new out_old out_new err_old err_new failed_old failed_new status
   checked : (found : Found) → IsCall args (codes "check") found
-      → HasChecked found out_old out_new err_old err_new failed_old failed_new status
-      → HasEnded args progress out_old out_new err_old err_new failed_old failed_new status
+      → HasChecked found out_old out_new err_old err_new failed_old failed_new status → in_new ≡ in_old
+      → HasEnded args progress in_old in_new out_old out_new err_old err_new failed_old failed_new status
   listed : (found : Found) → IsCall args (codes "tokens") found
-      → HasListed found progress out_old out_new err_old err_new failed_old failed_new status
-      → HasEnded args progress out_old out_new err_old err_new failed_old failed_new status
+      → HasListed found progress in_old in_new out_old out_new err_old err_new failed_old failed_new status
+      → HasEnded args progress in_old in_new out_old out_new err_old err_new failed_old failed_new status
   helped : (kind : ErrorKind) → IsNoCall args kind → ¬ (IsFault kind)
-      → (text : List ℕ) → Appends out_old out_new text → err_new ≡ err_old → failed_new ≡ failed_old → status ≡ 0
-      → HasEnded args progress out_old out_new err_old err_new failed_old failed_new status
+      → (text : List ℕ) → Appends out_old out_new text → err_new ≡ err_old → failed_new ≡ failed_old → in_new ≡ in_old → status ≡ 0
+      → HasEnded args progress in_old in_new out_old out_new err_old err_new failed_old failed_new status
   refused : (kind : ErrorKind) → IsNoCall args kind → IsFault kind
-      → (text : List ℕ) → IsReported err_old err_new failed_old failed_new text → out_new ≡ out_old → status ≡ 2
-      → HasEnded args progress out_old out_new err_old err_new failed_old failed_new status
+      → (text : List ℕ) → IsReported err_old err_new failed_old failed_new text → out_new ≡ out_old → in_new ≡ in_old → status ≡ 2
+      → HasEnded args progress in_old in_new out_old out_new err_old err_new failed_old failed_new status
   stopped : IsStopReported err_new failed_new → status ≡ 2
-      → HasEnded args progress out_old out_new err_old err_new failed_old failed_new status
+      → HasEnded args progress in_old in_new out_old out_new err_old err_new failed_old failed_new status

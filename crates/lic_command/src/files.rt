@@ -5,7 +5,7 @@ ghost use Rattle.std.specs.Io.KnownBytes.{Appends};
 ghost use Rattle.lic_engine.specs.Failures.{CountsReads, CountsWrites, Keeps};
 ghost use Rattle.lic_engine.specs.Inputs.{IsAccepted, IsRefused, IsUnrefused};
 ghost use Rattle.lic_engine.specs.Stream.{BeginsWith};
-ghost use Rattle.lic_command.specs.Lines.{AreBegun, AreLinesOf, AreWritten, HasWritten};
+ghost use Rattle.lic_command.specs.Lines.{AreBegun, AreLinesOf, AreWritten, HasRead, HasWritten, input_of};
 ghost use Rattle.lic_command.specs.Outcomes.{IsStopAfter, IsWithOneMore, StopsForWrites};
 ghost use Rattle.lic_command.specs.Reporting.{AreReported, IsAnswerReported, line_of_file};
 
@@ -117,10 +117,15 @@ fn write_file<Rt: Files, R: Source, W: Sink>(
     out: &mut W,
     work: Work<'_>,
 ) -> Result<Result<bool, RunFault>, Stop>
-    ensures written { IfOk result (HasWritten work.entry name.now (W.taken out.old) (W.taken out.new)) }
+    // What was read of standard input; of a file std knows no bytes.
+    ensures read { IfOk result (HasRead name.now
+        (input_of (R.left input.old) (R.failed input.old)) (input_of (R.left input.new) (R.failed input.new))) }
+    ensures written { IfOk result (HasWritten work.entry name.now
+        (input_of (R.left input.old) (R.failed input.old)) (input_of (R.left input.new) (R.failed input.new))
+        (W.taken out.old) (W.taken out.new)) }
     ensures other { name.now ≢ codes "-" → input.new ≡ input.old }
     ensures writes { IfOk result (λ answer. CountsWrites answer (W.failed out.old) (W.failed out.new)) }
-    ensures stopped { OnErr result (out.new ≡ out.old) }
+    ensures stopped { OnErr result ((input.new ≡ input.old) × (out.new ≡ out.old)) }
     ensures memory { IfErr result (λ stop. stop ≡ Stop.Memory) }
 {
     if name == "-" {
@@ -182,12 +187,16 @@ fn write_each<Rt: Files, R: Source, W: Sink, E: Sink>(
 ) -> Result<Written, Stop>
     // Each file that is refused is reported.
     ensures written { IfOk result (λ written. (refused : List (List ℕ))
-        × AreWritten work.entry (W.taken out.old) (map (λ name. name.now) files.entry.names.now) refused (W.taken out.new) written
+        × AreWritten work.entry (input_of (R.left input.old) (R.failed input.old)) (W.taken out.old)
+        (map (λ name. name.now) files.entry.names.now) refused
+        (input_of (R.left input.new) (R.failed input.new)) (W.taken out.new) written
         × (files.entry.progress ≡ Progress.Hidden
         → AreReported (E.taken err.old) (E.failed err.old) refused (E.taken err.new) (E.failed err.new))) }
     // It stops with what was written about some of the files, from the first.
     ensures part { OnErr result
-        (AreBegun work.entry (W.taken out.old) (map (λ name. name.now) files.entry.names.now) (W.taken out.new)) }
+        (AreBegun work.entry (input_of (R.left input.old) (R.failed input.old)) (W.taken out.old)
+        (map (λ name. name.now) files.entry.names.now)
+        (input_of (R.left input.new) (R.failed input.new)) (W.taken out.new)) }
     // It stops where a write failed, once, or where memory ran out.
     ensures writes { StopsForWrites result (W.failed out.old) (W.failed out.new) }
 {
@@ -219,12 +228,16 @@ pub fn write_files<Rt: Files, R: Source, W: Sink, E: Sink>(
 ) -> Result<Written, Stop>
     // Each file that is refused is reported.
     ensures written { IfOk result (λ written. (refused : List (List ℕ))
-        × AreWritten work.entry (W.taken out.old) (map (λ name. name.now) files.entry.names.now) refused (W.taken out.new) written
+        × AreWritten work.entry (input_of (R.left input.old) (R.failed input.old)) (W.taken out.old)
+        (map (λ name. name.now) files.entry.names.now) refused
+        (input_of (R.left input.new) (R.failed input.new)) (W.taken out.new) written
         × (files.entry.progress ≡ Progress.Hidden
         → AreReported (E.taken err.old) (E.failed err.old) refused (E.taken err.new) (E.failed err.new))) }
     // It stops with what was written about some of the files, from the first.
     ensures part { OnErr result
-        (AreBegun work.entry (W.taken out.old) (map (λ name. name.now) files.entry.names.now) (W.taken out.new)) }
+        (AreBegun work.entry (input_of (R.left input.old) (R.failed input.old)) (W.taken out.old)
+        (map (λ name. name.now) files.entry.names.now)
+        (input_of (R.left input.new) (R.failed input.new)) (W.taken out.new)) }
     // It stops where a write failed, once, or where memory ran out.
     ensures writes { StopsForWrites result (W.failed out.old) (W.failed out.new) }
 {

@@ -6,6 +6,7 @@ ghost use Rattle.clap.specs.Values.{kind_of};
 ghost use Rattle.lic_arguments.specs.CommandLine.{IsNoCall};
 ghost use Rattle.lic_load.specs.Reporting.{IsReported};
 ghost use Rattle.lic_command.specs.Commands.{HasChecked, HasEnded, HasListed, HasScanned};
+ghost use Rattle.lic_command.specs.Lines.{Input, input_of};
 ghost use Rattle.lic_command.specs.Outcomes.{CountsStops};
 ghost use Rattle.lic_command.specs.Usage.{IsFault, IsShown};
 
@@ -32,7 +33,9 @@ fn scan<Rt: Files + AllocGlobal + Clone + Drop, R: Source, W: Sink, E: Sink>(
     err: &mut E,
     progress: Progress,
 ) -> Result<u8, Stop>
-    ensures done { IfOk result (HasScanned (found_of found.now) progress (W.taken out.old) (W.taken out.new)
+    ensures done { IfOk result (HasScanned (found_of found.now) progress
+        (input_of (R.left input.old) (R.failed input.old)) (input_of (R.left input.new) (R.failed input.new))
+        (W.taken out.old) (W.taken out.new)
         (E.taken err.old) (E.taken err.new) (E.failed err.old) (E.failed err.new)) }
     ensures writes { CountsStops result (W.failed out.old) (W.failed out.new) }
     ensures few { IfOk result (λ status. status ≤ 2) }
@@ -89,7 +92,9 @@ fn tokens<Rt: Files + AllocGlobal, R: Source, W: Sink, E: Sink>(
     err: &mut E,
     progress: Progress,
 ) -> Result<u8, Stop>
-    ensures done { IfOk result (HasListed (found_of found.now) progress (W.taken out.old) (W.taken out.new)
+    ensures done { IfOk result (HasListed (found_of found.now) progress
+        (input_of (R.left input.old) (R.failed input.old)) (input_of (R.left input.new) (R.failed input.new))
+        (W.taken out.old) (W.taken out.new)
         (E.taken err.old) (E.taken err.new) (E.failed err.old) (E.failed err.new)) }
     ensures writes { CountsStops result (W.failed out.old) (W.failed out.new) }
     ensures few { IfOk result (λ status. status ≤ 2) }
@@ -134,8 +139,9 @@ fn show_usage<W: Sink, E: Sink>(
     ensures fault { IsFault (kind_of error.now) → result ≢ Err Stop.Memory → (text : List ℕ)
         × IsReported (E.taken err.old) (E.taken err.new) (E.failed err.old) (E.failed err.new) text
         × (out.new ≡ out.old) × (result ≡ Ok 2) }
-    ensures done { IfOk result (λ status. (args : List (List ℕ)) → (progress : Progress) → IsNoCall args (kind_of error.now)
-        → HasEnded args progress (W.taken out.old) (W.taken out.new)
+    ensures done { IfOk result (λ status. (args : List (List ℕ)) → (progress : Progress) → (input : Input)
+        → IsNoCall args (kind_of error.now)
+        → HasEnded args progress input input (W.taken out.old) (W.taken out.new)
         (E.taken err.old) (E.taken err.new) (E.failed err.old) (E.failed err.new) status) }
     ensures writes { CountsStops result (W.failed out.old) (W.failed out.new) }
     ensures few { IfOk result (λ status. status ≤ 2) }
@@ -164,7 +170,9 @@ fn try_command<Rt: Files + AllocGlobal + Clone + Drop, R: Source, W: Sink, E: Si
     err: &mut E,
     progress: Progress,
 ) -> Result<u8, Stop>
-    ensures done { IfOk result (HasEnded (map (λ a. a.now) args.now) progress (W.taken out.old) (W.taken out.new)
+    ensures done { IfOk result (HasEnded (map (λ a. a.now) args.now) progress
+        (input_of (R.left input.old) (R.failed input.old)) (input_of (R.left input.new) (R.failed input.new))
+        (W.taken out.old) (W.taken out.new)
         (E.taken err.old) (E.taken err.new) (E.failed err.old) (E.failed err.new)) }
     ensures writes { CountsStops result (W.failed out.old) (W.failed out.new) }
     ensures few { IfOk result (λ status. status ≤ 2) }
@@ -197,7 +205,9 @@ pub fn command<Rt: Files + AllocGlobal + Clone + Drop, R: Source, W: Sink, E: Si
     out: &mut W,
     err: &mut E,
 ) -> u8
-    ensures done { HasEnded (map (λ a. a.now) args.now) Progress.Hidden (W.taken out.old) (W.taken out.new)
+    ensures done { HasEnded (map (λ a. a.now) args.now) Progress.Hidden
+        (input_of (R.left input.old) (R.failed input.old)) (input_of (R.left input.new) (R.failed input.new))
+        (W.taken out.old) (W.taken out.new)
         (E.taken err.old) (E.taken err.new) (E.failed err.old) (E.failed err.new) result }
     // A write to standard output that failed ends it with 2.
     ensures sound { result ≢ 2 → W.failed out.new ≡ W.failed out.old }
@@ -216,7 +226,9 @@ pub fn command_with<Rt: Files + AllocGlobal + Clone + Drop, R: Source, W: Sink, 
     err: &mut E,
     progress: Progress,
 ) -> u8
-    ensures done { HasEnded (map (λ a. a.now) args.now) progress (W.taken out.old) (W.taken out.new)
+    ensures done { HasEnded (map (λ a. a.now) args.now) progress
+        (input_of (R.left input.old) (R.failed input.old)) (input_of (R.left input.new) (R.failed input.new))
+        (W.taken out.old) (W.taken out.new)
         (E.taken err.old) (E.taken err.new) (E.failed err.old) (E.failed err.new) result }
     // A write to standard output that failed ends it with 2.
     ensures sound { result ≢ 2 → W.failed out.new ≡ W.failed out.old }

@@ -1,8 +1,10 @@
-use Rattle.std.proofs.Common.{rules, [], ◌<◌, ◌+◌, length, map, take, refl, subst, sym, ap, ◌∙◌}
-use Rattle.lic_command.specs.Lines.{AreWritten}
+use Rattle.std.proofs.Common.{rules, ◌≡◌, ℕ, List, Option, [], ◌<◌, ◌+◌, length, refl, subst, sym, ap, ◌∙◌}
+use Rattle.lic_command.specs.Lines.{AreWritten, Input, input_of}
 use Rattle.lic_command.specs.Lines.AreWritten.{no_file}
 use Rattle.lic_command.specs.Reporting.{AreReported}
 use Rattle.lic_command.specs.Reporting.AreReported.{nothing}
+use Rattle.lic_command.specs.declared.files.Work.{Work}
+use Rattle.lic_command.specs.declared.files.Written.{Written}
 use Rattle.lic_command.proofs.CommandLemmas.{files_stop, memory_counts, refusal_counts}
 use Rattle.lic_command.proofs.LineLemmas.{begun, counts_more, reported_more, written_more}
 use Rattle.lic_command.proofs.files.write_each.Goals as goal
@@ -15,7 +17,7 @@ loop-done-preserved g c =
     let within : c.loop-done.done < length c.args.files.names.now = search rules in
     let before = c.loop-done.invariant in (
       _,
-      written_more _ c.args.work c.args.files.names.now c.loop-done.done _ within before.1 c.in_ok-answer.ensures.written c.with_one_more-written.ensures,
+      written_more _ c.args.work c.args.files.names.now c.loop-done.done _ within before.1 c.in_ok-answer.ensures.read c.in_ok-answer.ensures.written c.with_one_more-written.ensures,
       (λ hidden. reported_more before.0 _ _
           (subst (λ err. AreReported (g.E.Sink.taken c.args.err.now) (g.E.Sink.failed c.args.err.now) before.0 (g.E.Sink.taken err) (g.E.Sink.failed err))
           (sym (c.show.ensures.hidden hidden)) (before.2 hidden))
@@ -23,18 +25,25 @@ loop-done-preserved g c =
       counts_more _ c.in_ok-answer.ensures.writes before.3 c.in_ok-report_refusal.ensures.ok,
     )
 
+-- nothing was read or written after them
+same_written : {work : Work} {in_old in_mid in_new : Input} {old mid new : Option (List ℕ)} {names refused : List (List ℕ)} {written : Written}
+    → in_new ≡ in_mid → new ≡ mid → AreWritten work in_old old names refused in_mid mid written
+    → AreWritten work in_old old names refused in_new new written
+same_written {work} {in_old} {in_mid} {in_new} {old} {mid} {new} {names} {refused} {written} same_in same_out are =
+    subst (λ input. AreWritten work in_old old names refused input new written) (sym same_in)
+    (subst (λ out. AreWritten work in_old old names refused in_mid out written) (sym same_out) are)
+
 pub returns-in_err-answer-clause-part : goal.returns-in_err-answer-clause-part
 returns-in_err-answer-clause-part g c =
     begun c.from_residual.result c.args.work c.args.files.names.now c.loop-done.done
-    (subst (λ out. AreWritten c.args.work (g.W.Sink.taken c.args.out.now)
-    (map (λ name. name.now) (take c.loop-done.done c.args.files.names.now)) c.loop-done.invariant.0 (g.W.Sink.taken out) c.loop-done.written)
-    (sym c.in_err-answer.ensures.stopped) c.loop-done.invariant.1)
+    (same_written (ap (λ input. input_of (g.R.Source.left input) (g.R.Source.failed input)) c.in_err-answer.ensures.stopped.0)
+    (ap g.W.Sink.taken c.in_err-answer.ensures.stopped.1) c.loop-done.invariant.1)
 
 pub returns-in_err-report_refusal-clause-part : goal.returns-in_err-report_refusal-clause-part
 returns-in_err-report_refusal-clause-part g c =
     let within : c.loop-done.done < length c.args.files.names.now = search rules in
     begun c.from_residual-in_err-report_refusal.result c.args.work c.args.files.names.now (c.loop-done.done + 1)
-    (written_more _ c.args.work c.args.files.names.now c.loop-done.done _ within c.loop-done.invariant.1 c.in_ok-answer.ensures.written c.with_one_more-written.ensures)
+    (written_more _ c.args.work c.args.files.names.now c.loop-done.done _ within c.loop-done.invariant.1 c.in_ok-answer.ensures.read c.in_ok-answer.ensures.written c.with_one_more-written.ensures)
 
 pub returns-in_err-answer-clause-written : goal.returns-in_err-answer-clause-written
 returns-in_err-answer-clause-written g c = files_stop c.from_residual.result _ c.from_residual.ensures.1 _
@@ -42,7 +51,7 @@ returns-in_err-answer-clause-written g c = files_stop c.from_residual.result _ c
 pub returns-in_err-answer-clause-writes : goal.returns-in_err-answer-clause-writes
 returns-in_err-answer-clause-writes g c =
     memory_counts _ _ c.from_residual.result _ c.from_residual.ensures.1 c.in_err-answer.ensures.memory
-    (ap g.W.Sink.failed c.in_err-answer.ensures.stopped ∙ c.loop-done.invariant.3)
+    (ap g.W.Sink.failed c.in_err-answer.ensures.stopped.1 ∙ c.loop-done.invariant.3)
 
 pub returns-in_err-report_refusal-clause-written : goal.returns-in_err-report_refusal-clause-written
 returns-in_err-report_refusal-clause-written g c =

@@ -1,5 +1,4 @@
 use Rattle.lic_command.proofs.CommandLemmas.{check_counts, check_done, list_for, load_counts, load_stops, rules_for}
-use Rattle.lic_command.specs.declared.progress.Progress.TheVariants.{Hidden}
 use Rattle.lic_command.proofs.program.check_templates.Goals as goal
 
 pub returns-in_err-loaded-clause-writes : goal.returns-in_err-loaded-clause-writes
@@ -8,7 +7,7 @@ returns-in_err-loaded-clause-writes g c = load_counts c.from_residual-in_err-loa
 pub returns-clause-done : goal.returns-clause-done
 returns-clause-done g c =
     let read = c.read-arguments.ensures in
-    check_done _ Hidden _ _ _ _ _ _ _ _ _ c.check-answer.result _ _ c.status_of_check.result c.status_of_check.ensures.status c.check-answer.ensures.report
+    check_done _ _ _ _ _ _ _ _ _ _ c.check-answer.result _ _ c.status_of_check.result c.status_of_check.ensures.status c.check-answer.ensures.report
     (rules_for _ _ c.read-arguments.result.rules read.rules c.in_ok-rules.ensures.profile c.in_ok-rules.ensures.file)
     (list_for _ _ c.read-arguments.result.words read.words c.in_ok-words.ensures.none c.in_ok-words.ensures.file)
     c.in_ok-loaded.ensures.loaded c.in_ok-loaded.ensures.left_out

@@ -9,7 +9,7 @@ returns-in_err-written-clause-writes g c =
 pub returns-clause-done : goal.returns-clause-done
 returns-clause-done g c =
     let read = c.in_ok-arguments.ensures in
-    tokens_done _ c.args.progress _ _ _ _ _ _ _ _ _ c.in_ok-written.written _
+    tokens_done _ c.args.progress _ _ _ _ _ _ _ _ _ _ _ c.in_ok-written.written _
     (rules_for _ _ c.in_ok-arguments.arguments.rules read.rules c.in_ok-rules.ensures.profile c.in_ok-rules.ensures.file)
     (list_for _ _ c.in_ok-arguments.arguments.words read.words c.in_ok-words.ensures.none c.in_ok-words.ensures.file)
     (ap (map (λ f. f.now)) c.as_slice.ensures.value ∙ read.files)

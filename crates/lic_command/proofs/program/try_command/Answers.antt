@@ -15,7 +15,7 @@ pub returns-in-Some-subcommand_matches-clause-done : goal.returns-in-Some-subcom
 returns-in-Some-subcommand_matches-clause-done g c =
     IfOk-weaker c.check_templates.result _ _
     (λ status has. checked (found_of c.in-Some-subcommand_matches.found.now)
-    (called _ _ _ _ c.in-Ok.ensures.found (c.in-Some-subcommand_matches.ensures.found.0 refl) c.in-Some-subcommand_matches.ensures.rows) has) c.check_templates.ensures.done
+    (called _ _ _ _ c.in-Ok.ensures.found (c.in-Some-subcommand_matches.ensures.found.0 refl) c.in-Some-subcommand_matches.ensures.rows) has refl) c.check_templates.ensures.done
 
 pub returns-in-Some-subcommand_matches-2-clause-done : goal.returns-in-Some-subcommand_matches-2-clause-done
 returns-in-Some-subcommand_matches-2-clause-done g c =
@@ -25,7 +25,7 @@ returns-in-Some-subcommand_matches-2-clause-done g c =
 
 pub returns-clause-done : goal.returns-clause-done
 returns-clause-done g c =
-    usage_ended _ _ _ _ _ _ _ c.args.progress _ c.show_usage.result c.show_usage.ensures.memory c.in-Err.ensures.fault c.show_usage.ensures.done
+    usage_ended _ _ _ _ _ _ _ _ c.args.progress _ c.show_usage.result c.show_usage.ensures.memory c.in-Err.ensures.fault c.show_usage.ensures.done
 
 pub returns-in-Some-clause-writes : goal.returns-in-Some-clause-writes
 returns-in-Some-clause-writes g c = c.scan.ensures.writes
