@@ -34,9 +34,9 @@ FRAME = re.compile(rf'((<<var;name="verb".*?>> |licensed |distributed |distribut
                    rf'free software.*?under\s+the terms of the |(subject to the terms( and conditions)?|according to the terms) of the |'
                    rf'the terms of (?:{OPTIONAL})?(?=version)|same terms as (?:{OPTIONAL})?|OSI Approved :: |Use of this source code is governed by an? |'
                    rf'the (?=GNU General Public License as published)|subject to version [\d.]+ of the |'
-                   rf'licen[cs]e(?![a-z])(?: ?["_:=]*|{OPTIONAL}|\s|=>|\[)*)(?!to )(?=[A-Za-z0-9])', re.IGNORECASE | re.DOTALL)
+                   rf'licen[cs]e(?![a-z])(?:-expression: | ?["_:=]*|{OPTIONAL}|\s|=>|\[)*)(?!to )(?=[A-Za-z0-9])', re.IGNORECASE | re.DOTALL)
 # and what is after it: a version, `or later`, as published by .., what it is called or where its text is
-END = re.compile(r'\s*(<<beginOptional>> ?[,(v].*|<<var;name="(version|later)".*|,? version .*|as published .*|(?<=\s)(v\d )?or later|\(>= .*|'
+END = re.compile(r'\s*(<<beginOptional>> ?[,(v].*|<<var;name="(version|later|next)".*|,? version .*|as published .*|(?<=\s)(v\d )?or later|\(>= .*|'
                  r'(?<=\s)(v\d )?\(L?GPLv\d\)|(?<=\s)v\d|\(the "License"\).*|\. See LICENSE|that can be found .*)?\s*$', re.DOTALL | re.IGNORECASE)
 MAX_BYTES = 1_000_000
 FILES_OF_A_RUN = 500
