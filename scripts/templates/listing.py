@@ -8,6 +8,8 @@ import textwrap
 import starter
 
 PAGE = os.path.join(starter.EXAMPLES, "TEMPLATES.md")
+# a project that has the form, by its name
+SEEN = os.path.join(os.path.dirname(os.path.abspath(__file__)), "seen.tsv")
 RULE = re.compile(r"<<(?:var;.*?|beginOptional|endOptional)>>", re.S)
 KIND = re.compile(r"-(identifier|field|notice|mention)(-[b-z])?(-dot)?$")
 # they are cut at more words, too
@@ -19,8 +21,8 @@ HEAD = """\
 
 Made by `python3 scripts/templates/listing.py`. After each name is a text that the template
 describes: its beginning, with all optional parts and with the text that is published in place of
-each variable. What the endings of names mean is in
-[the manual](../docs/MANUAL.md#where-templates-come-from).
+each variable. A project in whose files it was found follows in parentheses, if one was. What the
+endings of names mean is in [the manual](../docs/MANUAL.md#where-templates-come-from).
 """
 SECTIONS = [
     ("text", "Texts", "Whole texts, or as much of them as tells them from others."),
@@ -75,10 +77,17 @@ def wrapped(text, indent=""):
     return textwrap.fill(text, 100, subsequent_indent=indent, break_long_words=False, break_on_hyphens=False)
 
 
-def item(name, template):
+def projects():
+    """A project for each form of which one is known."""
+    with open(SEEN, encoding="utf-8") as file:
+        return dict(line.rstrip("\n").split("\t") for line in file)
+
+
+def item(name, template, seen):
     text = original_of(template)
     shown = text if len(text) <= MOST_LETTERS else text[:MOST_LETTERS].rsplit(" ", 1)[0] + " .."
-    return wrapped(f"- `{name}`: {re.sub(r'([*_<>`|])', lambda it: chr(92) + it[1], shown)}", "  ")
+    project = f" (in `{seen[name]}`)" if name in seen else ""
+    return wrapped(f"- `{name}`: {re.sub(r'([*_<>`|])', lambda it: chr(92) + it[1], shown)}{project}", "  ")
 
 
 def names(kind, found, pattern):
@@ -87,10 +96,10 @@ def names(kind, found, pattern):
 
 
 def page():
-    found = read()
+    found, seen = read(), projects()
     lines = [HEAD]
     for kind, title, sentence in SECTIONS:
-        lines += [f"## {title}\n", wrapped(sentence) + "\n", "\n".join(item(*it) for it in sorted(found[kind].items())) + "\n"]
+        lines += [f"## {title}\n", wrapped(sentence) + "\n", "\n".join(item(*it, seen) for it in sorted(found[kind].items())) + "\n"]
     lines += ["## Tags\n", "`NAME-identifier`: `SPDX-License-Identifier: NAME`, such as `SPDX-License-Identifier: MIT`. NAME is\n",
               names("identifier", found, KIND) + "\n"]
     lines += ["## Fields\n", wrapped("`NAME-field`, `-b` ..: a field of a manifest or header, such as `\"license\": \"MIT\"`, `License: GPL-2+`, "
