@@ -1,9 +1,14 @@
 //! Sets of templates: how they are numbered, and why one is refused.
 
+ghost use Rattle.std.specs.Prelude.{All, IfOk};
+ghost use Rattle.lic_set.specs.Candidates.{IsCandidateOf};
+
 use crate::profile::{set_of, template_of, text_of};
+use lic_keys::Candidate;
 use lic_markup::Template;
+use lic_norm::Text;
 use lic_set::Set;
-use std::alloc::Global;
+use std::alloc::{AllocError, Global};
 use std::fmt::Write;
 use std::test::Fail;
 
@@ -63,22 +68,49 @@ fn templates_are_numbered_or_no_set(rt: HostRuntime) -> Result<(), Fail> {
     Ok(())
 }
 
-/// The templates of a set that can describe a range of a text, each with the places of the text's canonical spelling at which the
-/// letters of its required text end.
+/// Adds a template that can describe a range of a text, with the places of the text's canonical spelling at which the letters of its
+/// required text end.
+fn show_candidate(
+    alloc: Global,
+    set: &Set,
+    text: &Text,
+    candidate: &Candidate,
+    shown: &mut String,
+) -> Result<(), Fail>
+    requires { IsCandidateOf set.now text.now.tokens candidate.now }
+{
+    write!(shown, "{}:", candidate.number)?;
+    if let Some(ends) = set.required_ends(alloc, text, candidate)? {
+        for place in &ends.places {
+            write!(shown, " {place}")?;
+        }
+    }
+    shown.push_str("; ")?;
+    Ok(())
+}
+
+/// The candidates of a set for a text.
+fn candidates_of(alloc: Global, set: &Set, text: &Text) -> Result<Vec<Candidate>, AllocError>
+    ensures each { IfOk result (λ found. All (IsCandidateOf set.now text.now.tokens) found.items) }
+{
+    set.candidates(alloc, text)
+}
+
+/// The templates of a set that can describe a range of a text.
+fn show_candidates(alloc: Global, set: &Set, text: &Text) -> Result<String, Fail> {
+    let candidates = candidates_of(alloc, set, text)?;
+    let mut shown = String::new(alloc);
+    for candidate in &candidates {
+        show_candidate(alloc, set, text, candidate, &mut shown)?;
+    }
+    Ok(shown)
+}
+
+/// Those of a set of templates and of a source.
 fn candidates_in(alloc: Global, texts: &[&str], source: &str) -> Result<String, Fail> {
     let set = set_of(alloc, texts)?;
     let text = text_of(alloc, source)?;
-    let mut shown = String::new(alloc);
-    for candidate in &set.candidates(alloc, &text)? {
-        write!(shown, "{}:", candidate.number)?;
-        if let Some(ends) = set.required_ends(alloc, &text, candidate)? {
-            for place in &ends.places {
-                write!(shown, " {place}")?;
-            }
-        }
-        shown.push_str("; ")?;
-    }
-    Ok(shown)
+    show_candidates(alloc, &set, &text)
 }
 
 #[test]
