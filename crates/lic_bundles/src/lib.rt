@@ -2,8 +2,6 @@
 #![tactic(auto)]
 
 mod bundle;
-#[cfg(test)]
-mod tests;
 mod triples;
 
 pub use bundle::Bundle;

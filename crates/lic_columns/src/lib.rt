@@ -4,7 +4,6 @@
 mod block;
 mod columns;
 mod edges;
-mod first_tokens;
 mod flags;
 pub mod laws;
 mod lines;
@@ -12,8 +11,6 @@ mod marks;
 mod mask;
 mod places;
 mod plain;
-#[cfg(test)]
-mod tests;
 mod tokens;
 mod wide;
 

@@ -3,3 +3,5 @@
 
 #[cfg(test)]
 mod failures;
+#[cfg(test)]
+mod streams;

@@ -11,8 +11,6 @@ pub mod laws;
 mod marks;
 mod prefilter;
 mod tables;
-#[cfg(test)]
-mod tests;
 
 pub use ends::ends_within;
 pub use kept::Kept;

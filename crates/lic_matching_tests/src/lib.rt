@@ -2,6 +2,8 @@
 #![tactic(auto)]
 
 #[cfg(test)]
+mod bundles;
+#[cfg(test)]
 mod filters;
 #[cfg(test)]
 mod finder;
@@ -10,6 +12,8 @@ mod keys;
 #[cfg(test)]
 mod letters;
 #[cfg(test)]
+mod literals;
+#[cfg(test)]
 mod profile;
 #[cfg(test)]
 mod rows;
@@ -17,6 +21,8 @@ mod rows;
 mod runs;
 #[cfg(test)]
 mod sets;
+#[cfg(test)]
+mod spans;
 #[cfg(test)]
 mod trees;
 #[cfg(test)]

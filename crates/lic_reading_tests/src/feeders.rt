@@ -1,10 +1,10 @@
 //! Inputs that come in pieces.
 ghost use Rattle.std.specs.Prelude.{◌<◌};
 
+use crate::shown::show_tokens;
 use lic_kind::Rules;
 use lic_norm::{Feeder, MAX_BYTES, Text, TextFault, Words, read_pieces};
 use std::alloc::{AllocError, Global};
-use std::fmt::Write;
 use std::test::Fail;
 
 /// Feeds pieces of `size` bytes, whatever is answered: how many are refused.
@@ -45,20 +45,6 @@ fn fed(
     let refused = feed(&mut feeder, rest, size);
     let ready = feeder.ready();
     (refused, ready, feeder.finish())
-}
-
-/// The tokens of a text, each as its text and its span.
-fn show_tokens(alloc: Global, text: &Text) -> Result<String, AllocError> {
-    let mut shown = String::new(alloc);
-    for i in 0..text.len() {
-        let token = text.token(i);
-        write!(
-            shown,
-            "{} {}-{}, ",
-            token.text, token.span.start, token.span.end
-        )?;
-    }
-    Ok(shown)
 }
 
 /// Those, or why there is no text.

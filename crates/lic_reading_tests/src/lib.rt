@@ -1,4 +1,4 @@
-//! Tests of inputs that come in pieces, by the public calls: what a feeder gives however an input is cut, what is ready meanwhile, and a refusal that stays; and of random texts, which a plain reader reads as well.
+//! Tests of inputs that come in pieces, by the public calls: what a feeder gives however an input is cut, what is ready meanwhile, and a refusal that stays; of random texts, which a plain reader reads as well; and of worked ones.
 #![tactic(auto)]
 
 #[cfg(test)]
@@ -7,3 +7,7 @@ mod feeders;
 mod plain;
 #[cfg(test)]
 mod random;
+#[cfg(test)]
+mod shown;
+#[cfg(test)]
+mod worked;

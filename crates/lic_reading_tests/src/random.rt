@@ -1,10 +1,10 @@
 //! Random texts, rich in what the fast way of reading has to look at twice, read as a plain reader reads them.
 
 use crate::plain::read_plainly;
+use crate::shown::show_tokens;
 use lic_kind::Rules;
 use lic_norm::{Feeder, Text, Words};
 use std::alloc::{AllocError, Global};
-use std::fmt::Write;
 use std::test::Fail;
 
 /// What the texts are made of: words, marks that are joined, separators, comment marks, items, signs, addresses, letters beyond
@@ -148,20 +148,6 @@ fn drawn_text(
         text.extend_from_slice(fragments.get(number).copied().unwrap_or(b""))?;
     }
     Ok((text, state))
-}
-
-/// The tokens of a text, each as its text and its span.
-fn show_tokens(alloc: Global, text: &Text) -> Result<String, AllocError> {
-    let mut shown = String::new(alloc);
-    for i in 0..text.len() {
-        let token = text.token(i);
-        write!(
-            shown,
-            "{} {}-{}, ",
-            token.text, token.span.start, token.span.end
-        )?;
-    }
-    Ok(shown)
 }
 
 /// The tokens of a text that is fed in pieces of random lengths.

@@ -6,8 +6,6 @@ mod join;
 mod least;
 mod span;
 mod sweep;
-#[cfg(test)]
-mod tests;
 
 pub use each::with_each_last;
 pub use least::with_least_last;

@@ -9,9 +9,6 @@ ghost use Rattle.lic_stream.specs.Counts.{stream_of, failures_of};
 use std::io;
 use std::io::{Read, Write};
 
-#[cfg(test)]
-mod tests;
-
 /// Where bytes come from.
 pub trait Source {
     /// The bytes that are left, where they are known.

@@ -4,8 +4,7 @@ ghost use Rattle.std.specs.Prelude.{All, IfOk, IsTrue};
 ghost use Rattle.lic_bundles.specs.Bundles.{AreApart, IsOf};
 ghost use Rattle.lic_set.specs.declared.triple.Triple.{Triple};
 
-use crate::bundle::Bundle;
-use crate::triples::Triples;
+use lic_bundles::{Bundle, Triples};
 use lic_set::Triple;
 use std::alloc::{AllocError, Global};
 use std::fmt::Write;

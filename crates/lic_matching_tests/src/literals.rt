@@ -1,8 +1,6 @@
 //! Worked literals: where one ends, and which of many may occur in some bytes.
 
-use crate::ends::ends_within;
-use crate::kept::Kept;
-use crate::prefilter::Prefilter;
+use lic_literals::{Kept, Prefilter, ends_within};
 use std::alloc::{AllocError, Global};
 use std::fmt::Write;
 use std::test::Fail;

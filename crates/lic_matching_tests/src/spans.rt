@@ -2,8 +2,7 @@
 
 ghost use Rattle.std.specs.Prelude.{◌≤◌, ◌<◌, All, IfOk};
 
-use crate::least::with_least_last;
-use crate::span::{PlaceSpan, SpanKind};
+use lic_spans::{PlaceSpan, SpanKind, with_least_last};
 use std::alloc::{AllocError, Global};
 use std::fmt::Write;
 use std::test::Fail;

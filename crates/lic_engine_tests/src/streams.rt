@@ -1,7 +1,6 @@
 //! A reader and a writer of std's kind of which one call fails and later ones succeed: each call is made once, and its failure is answered.
 
-use super::{Counted, Sink, Source};
-use crate::transfer::{ReadFault, WriteFailed, put_all, read_up_to};
+use lic_stream::{Counted, ReadFault, Sink, Source, WriteFailed, put_all, read_up_to};
 use std::alloc::Global;
 use std::io;
 use std::io::{ErrorKind, Read, Write};
