@@ -73,18 +73,6 @@ three_of (a ∷ []) h = absurd (omega arith)
 three_of (a ∷ b ∷ []) h = absurd (omega arith)
 three_of (a ∷ b ∷ c ∷ bytes) h = refl
 
-pub two_front : (c : ℕ) (bytes : List ℕ) → 2 ≤ length bytes → 128 ≤ c → c < 2048 → encode_utf8 c ≡ get_or bytes 0 0 ∷ get_or bytes 1 0 ∷ []
-    → (len_utf8 c ≡ 2) × (bytes ≡ encode_utf8 c ++ drop (len_utf8 c) bytes)
-two_front c bytes within low high spells =
-    let width = width_two c low high in
-    (width, two_of bytes within ∙ ap₂ (λ l n. l ++ drop n bytes) (sym spells) (sym width))
-
-pub three_front : (c : ℕ) (bytes : List ℕ) → 3 ≤ length bytes → 2048 ≤ c → c < 65536
-    → encode_utf8 c ≡ get_or bytes 0 0 ∷ get_or bytes 1 0 ∷ get_or bytes 2 0 ∷ [] → (len_utf8 c ≡ 3) × (bytes ≡ encode_utf8 c ++ drop (len_utf8 c) bytes)
-three_front c bytes within low high spells =
-    let width = width_three c low high in
-    (width, three_of bytes within ∙ ap₂ (λ l n. l ++ drop n bytes) (sym spells) (sym width))
-
 -- ---- a letter in the place of a word character
 
 wide_two : (c : ℕ) → 128 ≤ c → 2 ≤ len_utf8 c

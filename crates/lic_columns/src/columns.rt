@@ -1,12 +1,12 @@
 //! A text in columns.
-ghost use Rattle.std.specs.Prelude.{◌≡◌, ℕ, ◌+◌, ◌-◌, ◌%◌, ◌^◌, ◌<◌, ◌≤◌, ◌++◌, [], true, false, length, take, replicate, slice_index, IfOk, IfSome, IfNone};
+ghost use Rattle.std.specs.Prelude.{◌≡◌, ℕ, ◌+◌, ◌-◌, ◌%◌, ◌^◌, ◌<◌, ◌≤◌, ◌++◌, [], true, false, length, take, replicate, slice_index, IfOk};
 ghost use Rattle.lic_columns.specs.Masks.{flag_at};
-ghost use Rattle.lic_columns.specs.Known.{HasLength, known_of, followed_by, blanked, is_dark};
+ghost use Rattle.lic_columns.specs.Known.{HasLength, known_of, followed_by, blanked};
 
 mod search;
 
 use crate::block::{SIZE, padded, read_block};
-use crate::columns::search::{first_of_either, first_set, last_of_either};
+use crate::columns::search::first_set;
 use crate::flags::Flags;
 use std::alloc::{AllocError, Global};
 use std::marker::Model;
@@ -151,27 +151,5 @@ impl Columns {
     {
         self.word.clear(from, to);
         self.mark.clear(from, to);
-    }
-
-    /// The first byte of the range that is no blank.
-    #[inline]
-    pub fn first_in(&self, from: usize, to: usize) -> Option<usize>
-        requires { from ≤ to }
-        ensures found { IfSome result (λ at. (from ≤ at) × (at < to) × (is_dark self.now at ≡ true)
-            × ((k : ℕ) → from ≤ k → k < at → is_dark self.now k ≡ false)) }
-        ensures none { IfNone result ((k : ℕ) → from ≤ k → k < to → is_dark self.now k ≡ false) }
-    {
-        first_of_either(&self.word, &self.mark, from, to)
-    }
-
-    /// The last byte of the range that is no blank.
-    #[inline]
-    pub fn last_in(&self, from: usize, to: usize) -> Option<usize>
-        requires { from ≤ to }
-        ensures found { IfSome result (λ at. (from ≤ at) × (at < to) × (is_dark self.now at ≡ true)
-            × ((k : ℕ) → at < k → k < to → is_dark self.now k ≡ false)) }
-        ensures none { IfNone result ((k : ℕ) → from ≤ k → k < to → is_dark self.now k ≡ false) }
-    {
-        last_of_either(&self.word, &self.mark, from, to)
     }
 }

@@ -19,17 +19,17 @@ const KINDS: &[ErrorKind] = &[
 
 /// A reader that gives one byte a call, and of whose calls one fails.
 #[derive(Drop)]
-struct Letters {
+struct Letters<'c> {
     rest: &'static [u8],
-    calls: usize,
+    calls: &'c mut usize,
     fails_at: usize,
     kind: ErrorKind,
 }
 
-impl Read for Letters {
+impl Read for Letters<'_> {
     fn read(&mut self, buf: &mut [u8]) -> io::Result<usize> {
-        self.calls = self.calls.saturating_add(1);
-        if self.calls == self.fails_at {
+        *self.calls = self.calls.saturating_add(1);
+        if *self.calls == self.fails_at {
             return Err(io::Error::from(self.kind));
         }
         let n = self.rest.len().min(buf.len()).min(1);
@@ -41,17 +41,17 @@ impl Read for Letters {
 
 /// A writer that takes one byte a call, and of whose calls one fails: by an error, or by taking nothing.
 #[derive(Drop)]
-struct Page {
-    taken: Vec<u8>,
-    calls: usize,
+struct Page<'c> {
+    taken: &'c mut Vec<u8>,
+    calls: &'c mut usize,
     fails_at: usize,
     kind: Option<ErrorKind>,
 }
 
-impl Write for Page {
+impl Write for Page<'_> {
     fn write(&mut self, piece: &[u8]) -> io::Result<usize> {
-        self.calls = self.calls.saturating_add(1);
-        if self.calls == self.fails_at {
+        *self.calls = self.calls.saturating_add(1);
+        if *self.calls == self.fails_at {
             return match self.kind {
                 Some(kind) => Err(io::Error::from(kind)),
                 None => Ok(0),
@@ -69,28 +69,23 @@ impl Write for Page {
 
 /// Reads to the end, where this call fails, and then reads what is left.
 fn fail_read(rt: &impl Abort, alloc: Global, kind: ErrorKind, fails_at: usize) -> Result<(), Fail> {
+    let mut calls = 0;
     let mut source = Counted::new(Letters {
         rest: TEXT,
-        calls: 0,
+        calls: &mut calls,
         fails_at,
         kind,
     });
     let limit = TEXT.len() + 1;
     let failed = read_up_to(alloc, &mut source, limit);
     assert_eq!(rt; failed, Err(ReadFault::Read), "{kind:?} at {fails_at}");
-    assert_eq!(rt;
-        (source.inner.calls, source.failures()),
-        (fails_at, 1),
-        "{kind:?}"
-    );
+    assert_eq!(rt; source.failures(), 1, "{kind:?}");
     let bytes = read_up_to(alloc, &mut source, limit)?;
+    assert_eq!(rt; source.failures(), 1, "{kind:?}");
+    // a byte for each call before the one that failed
     assert_eq!(rt; bytes.len().saturating_add(fails_at), limit, "{kind:?}");
     assert!(rt; TEXT.ends_with(bytes.as_slice()), "{kind:?}");
-    assert_eq!(rt;
-        (source.inner.calls, source.failures()),
-        (TEXT.len() + 2, 1),
-        "{kind:?}"
-    );
+    assert_eq!(rt; calls, TEXT.len() + 2, "{kind:?}");
     Ok(())
 }
 
@@ -111,28 +106,27 @@ fn fail_write(
     kind: Option<ErrorKind>,
     fails_at: usize,
 ) -> Result<(), Fail> {
+    let mut taken = Vec::new(alloc);
+    let mut calls = 0;
     let mut sink = Counted::new(Page {
-        taken: Vec::new(alloc),
-        calls: 0,
+        taken: &mut taken,
+        calls: &mut calls,
         fails_at,
         kind,
     });
     let failed = put_all(&mut sink, TEXT);
     assert_eq!(rt; failed, Err(WriteFailed), "{kind:?} at {fails_at}");
-    assert_eq!(rt;
-        (sink.inner.calls, sink.failures()),
-        (fails_at, 1),
-        "{kind:?}"
-    );
-    assert_eq!(rt;
-        sink.inner.taken.len().saturating_add(1),
-        fails_at,
-        "{kind:?}"
-    );
+    assert_eq!(rt; sink.failures(), 1, "{kind:?}");
     put_all(&mut sink, TEXT)?;
-    let calls = fails_at.saturating_add(TEXT.len());
-    assert_eq!(rt; (sink.inner.calls, sink.failures()), (calls, 1), "{kind:?}");
-    assert!(rt; sink.inner.taken.ends_with(TEXT), "{kind:?}");
+    assert_eq!(rt; sink.failures(), 1, "{kind:?}");
+    // a byte for each call before the one that failed
+    assert_eq!(rt;
+        taken.len().saturating_add(1),
+        fails_at.saturating_add(TEXT.len()),
+        "{kind:?}"
+    );
+    assert!(rt; taken.ends_with(TEXT), "{kind:?}");
+    assert_eq!(rt; calls, fails_at.saturating_add(TEXT.len()), "{kind:?}");
     Ok(())
 }
 

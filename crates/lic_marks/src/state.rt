@@ -1,6 +1,6 @@
 //! The state of a position automaton that reads letters and gaps: which positions are active.
 
-ghost use Rattle.std.specs.Prelude.{◌≡◌, ℕ, ◌≤◌, ◌↔◌, true, false, IsTrue, IfOk, List, [], ◌∷◌, ◌++◌, length};
+ghost use Rattle.std.specs.Prelude.{◌≡◌, ℕ, ◌≤◌, ◌↔◌, true, false, IsTrue, IfOk, List, ◌∷◌, ◌++◌, length};
 ghost use Rattle.std.specs.Str.{chars};
 ghost use Rattle.lic_words.specs.Words.{Word, blanks};
 ghost use Rattle.lic_words.specs.Spelling.{Gap, free, gapped_from, last_letter, SpellsGapped};
@@ -9,7 +9,7 @@ ghost use Rattle.lic_marks.specs.Cores.{Core, WordsOf};
 ghost use Rattle.lic_marks.specs.Marks.{no_marks};
 ghost use Rattle.lic_marks.specs.Rows.{weight, marks_of};
 ghost use Rattle.lic_marks.specs.Nodes.{core_of, is_measured};
-ghost use Rattle.lic_marks.specs.Representing.{After, AfterAny, RepresentsAtOnce, each_with, shift_over};
+ghost use Rattle.lic_marks.specs.Representing.{AfterAny, RepresentsAtOnce, each_with, shift_over};
 ghost use Rattle.lic_marks.specs.Deciding.{over_blanks};
 
 use crate::leave::leaves;
@@ -139,16 +139,6 @@ impl State {
         let at_once = leaves(tree, &self.at_once, 0, false, self.entry);
         let after_blanks = leaves(tree, &self.after_blanks, 0, true, false);
         at_once | after_blanks
-    }
-
-    /// Whether a word of the expression ends with the last letter that was taken.
-    pub fn ends(&self, tree: &Node) -> bool
-        requires measured { IsTrue (is_measured tree.now) }
-        requires within { weight (core_of tree.now) ≤ position_count self.now }
-        ensures { (letters : List (Gap × ℕ)) → HasTaken (core_of tree.now) self.now letters
-            → IsTrue result ↔ After (WordsOf (core_of tree.now)) letters [] }
-    {
-        leaves(tree, &self.at_once, 0, false, self.entry)
     }
 
     /// Whether a letter was taken and no position is active: then no word begins with what was taken.

@@ -39,9 +39,6 @@ pub kept-values : (spelling : List ℕ) (entries : List Entry) (tokens : List To
     → entry_values spelling 0 entries ≡ tokens
 kept-values spelling entries tokens kept = values-are spelling [] tokens entries tt (are_texts tokens kept.utf8 kept.texts) kept.each kept.spells
 
-pub kept-none : IsKept [] [] []
-kept-none = record { spells = refl; each = tt; utf8 = All-nil (λ t. IsUtf8 t.text); texts = All-nil (λ t. IsTokenText t.text) }
-
 -- ---- one entry of them
 
 pub AreEntries-length : (before : List (List ℕ)) (tokens : List TokenValue) (entries : List Entry) → AreEntries before tokens entries
@@ -202,10 +199,3 @@ module _ (spelling spelling' text : List ℕ) (entries entries' : List Entry) (t
 
   pub kept-pushed : IsKept spelling' entries' (entry_values spelling' 0 entries')
   kept-pushed = subst (IsKept spelling' entries') (sym values-pushed) kept_more
-
--- the tokens so far
-pub kept-same : (spelling spelling' : List ℕ) (entries entries' : List Entry) → spelling' ≡ spelling → entries' ≡ entries
-    → IsKept spelling entries (entry_values spelling 0 entries) → IsKept spelling' entries' (entry_values spelling' 0 entries')
-kept-same spelling spelling' entries entries' same alike kept =
-    subst (λ s. IsKept s entries' (entry_values s 0 entries')) (sym same)
-    (subst (λ es. IsKept spelling es (entry_values spelling 0 es)) (sym alike) kept)

@@ -110,19 +110,6 @@ read_on old new end rules start source within lines taken =
 
 -- ---- more bytes
 
--- what was read stays when more bytes come
-pub front_stays : (source bytes : List ℕ) (at : ℕ) → at ≤ length source → take at (source ++ bytes) ≡ take at source
-front_stays source bytes at within = take-append-le at source bytes within
-
-pub open_stays : (source bytes : List ℕ) (at : ℕ) → at ≤ length source → All NoEnd (drop at source)
-    → All NoEnd (slice_range (source ++ bytes) at (length source))
-open_stays source bytes at within clear =
-    let long : length (drop at source) ≡ length source - at = length-drop at source in
-    subst (All NoEnd)
-    (sym (ap (take (length source - at)) (drop-append-le at source bytes within)
-    ∙ take-append-le (length source - at) (drop at source) bytes (omega (arith, long))
-    ∙ take_all (length source - at) (drop at source) (omega (arith, long)))) clear
-
 -- ---- settled tokens
 
 -- the settled tokens of whole lines begin those of every input that begins so

@@ -155,18 +155,6 @@ pub record IsLineOf (text : List ℕ) (at n : ℕ) : Type 0 where
   pub utf8 : IsUtf8 (slice_range text at (at + n))
   pub first : IsFirstLine (chars (slice_range text at (at + n))) (drop (at + n) text)
 
-pub line_and_rest : (text : List ℕ) (at n : ℕ) → IsUtf8 text → IsCharBoundary text at → IsCharBoundary (drop at text) n
-    → IsFirstLine (chars (take n (drop at text))) (drop n (drop at text)) → IsLineOf text at n
-line_and_rest text at n utf8 here there first =
-    let left = drop at text in
-    let size : at + n - at ≡ n = omega arith in
-    let line : take n left ≡ slice_range text at (at + n) = ap (λ m. take m left) (sym size) in
-    let rest : drop n left ≡ drop (at + n) text = drop-drop n at text in record {
-      parts = sym (take-append-drop n left) ∙ ap₂ (λ a b. a ++ b) line rest;
-      utf8 = subst IsUtf8 line (IsUtf8-take left n (IsUtf8-drop text at utf8 here) there);
-      first = subst (λ r. IsFirstLine (chars (slice_range text at (at + n))) r) rest (subst (λ l. IsFirstLine (chars l) (drop n left)) line first);
-    }
-
 module _ (rules : LineRules) (part : LinePart) (has_front : Bool) (before : Next) (here line line' : List SourceChar)
     (same : line ≡ here) (same' : line' ≡ here) (parted : part ≡ part_of has_front before line) where
   pub line_cells-is : streaks_joined rules (line_cells rules part line') ≡ streaks_joined rules (line_cells rules (part_of has_front before here) here)

@@ -31,17 +31,6 @@ least_first x active bound y among =
     not_less y.0.0 x.0.0 (nat_cmp x.1 y.1)
     (All-contains (λ z. is_lt (active_cmp x z) ≡ false) active y (All-from_recursion (λ z. is_lt (active_cmp x z) ≡ false) active bound) among)
 
-pub Advances-start : (kind : SpanKind) (at : ℕ) (active : List Active) (spans : List PlaceSpan) → Advances kind at active spans at active spans
-Advances-start kind at active spans = record {
-  onward = omega arith;
-  kept = λ k p l h. h;
-  sound = λ k p l h. inl h;
-  least = λ p l from h. inr (from, h);
-  actives = λ item h. h;
-  settled = λ h. h;
-  fits = λ low h. h;
-}
-
 module _ (kind : SpanKind) (from : ℕ) (first : List Active) (old : List PlaceSpan) (at : ℕ) (active : List Active) (spans : List PlaceSpan)
     (so_far : Advances kind from first old at active spans) where
   -- none is active: the places up to any other are done

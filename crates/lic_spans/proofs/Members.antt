@@ -65,17 +65,3 @@ Holds-append_cases xs ys k p l h =
 pub HasLess-kept : (xs ys : List PlaceSpan) → ((k : SpanKind) (p l : ℕ) → Holds xs k p l → Holds ys k p l) →
     (k : SpanKind) (p l : ℕ) → HasLess xs k p l → HasLess ys k p l
 HasLess-kept xs ys kept k p l h = (h.0, h.1, kept k p h.0 h.2)
-
-pub HasLess-itself : (xs : List PlaceSpan) (k : SpanKind) (p l : ℕ) → Holds xs k p l → HasLess xs k p l
-HasLess-itself xs k p l h = (l, omega arith, h)
-
--- where a list holds only what another holds, a limit on the places of that one is one on its own
-pub high-below : (limit : ℕ) (xs ys : List PlaceSpan) → ((k : SpanKind) (p l : ℕ) → Holds ys k p l → Holds xs k p l) →
-    All (λ s. s.low ≤ s.high) ys → All (λ s. s.high < limit) xs → All (λ s. s.high < limit) ys
-high-below limit xs ys sound ordered all = λ k d low.
-    let s : PlaceSpan = get_or ys k d in
-    let up : s.low ≤ s.high = ordered k d low in
-    let old : Holds xs s.kind s.high s.last = sound s.kind s.high s.last (Holds-member ys s (Contains-get_or ys k d low) s.high up (omega arith)) in
-    let below : old.span.high < limit = All-contains (λ t. t.high < limit) xs old.span all old.among in
-    let to : s.high ≤ old.span.high = old.to in
-    omega arith
