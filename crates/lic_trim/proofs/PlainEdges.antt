@@ -1,5 +1,5 @@
--- Lines of which nothing but white space is taken, as their first two characters and their last two show.
-use Rattle.std.proofs.Common.{◌≡◌, ◌≢◌, ℕ, zero, suc, ◌+◌, ◌<◌, ◌≤◌, Bool, true, false, not, ◌&&◌, ◌||◌, ◌==◌, List, [], ◌∷◌, ◌++◌, inl, inr, length, take, drop, get_or, reverse, refl, sym, ap, ap₂, ◌∙◌, append_assoc, append-nil, ⊎_elim, arith, length-append}
+-- Lines of which nothing but white space is taken, as two characters at each of their edges show.
+use Rattle.std.proofs.Common.{◌≡◌, ◌≢◌, ℕ, zero, suc, ◌+◌, ◌-◌, ◌<◌, ◌≤◌, Bool, true, false, not, ◌&&◌, ◌||◌, ◌==◌, List, [], ◌∷◌, ◌++◌, inl, inr, length, take, drop, get_or, reverse, refl, sym, ap, ap₂, subst, ◌∙◌, append_assoc, append-nil, ⊎_elim, arith, length-append}
 use Rattle.std.specs.Prelude.{nat_le, slice_index}
 use Rattle.std.specs.List.{list_all, position_or_len, AllByRecursion}
 use Rattle.std.specs.Int.{is_in_range}
@@ -7,7 +7,7 @@ use Rattle.std.specs.Char.{is_whitespace, is_ascii, is_ascii_digit, is_ascii_alp
 use Rattle.std.proofs.Math.ListN.{get_or-append}
 use Rattle.std.proofs.Math.Seq.{get_or-append_seam, drop-append_seam}
 use Rattle.std.proofs.lemmas.Bool.{false≢true, and_parts, or_cases, or_left, or_right, leb-true, lt-ltb, cases_Bool, cases_lt}
-use Rattle.std.proofs.lemmas.List.{reverse-append, reverse-reverse, get_or-append-add, take_more, take_all}
+use Rattle.std.proofs.lemmas.List.{reverse-append, length-reverse, get_or-append-add, get_or-append_right, take_more, take_all}
 use Rattle.lic_kind.specs.Kinds.{kind_of, is_dash, is_bullet}
 use Rattle.lic_kind.specs.declared.Kind.TheVariants as kind
 use Rattle.lic_kind.proofs.KindLemmas.{kind_of-alphanumeric, kind_of-dash, kind_of-bullet}
@@ -15,7 +15,8 @@ use Rattle.lic_kind.specs.LineRules.{LineRules}
 use Rattle.lic_trim.specs.Texts.{is_sequence, longest_front}
 use Rattle.lic_trim.specs.Lines.{is_bullet_sign, is_roman_digit, is_letter, is_roman, is_item_form, lets_item, item_length, item_after_lead, lead_length, tail_length, cut_of, whole_line, LineCut}
 use Rattle.lic_trim.specs.Walks.{Side, Front, End, is_walked_piece, may_begin_with_any}
-use Rattle.lic_trim.specs.PlainEdges.{KeepsAll}
+use Rattle.lic_trim.specs.PlainEdges.{HasEdges, KeepsAll}
+use Rattle.lic_trim.specs.Spaces.{TakesSpaces}
 use Rattle.lic_trim.proofs.SpaceSequences.{longest_standing, or_off}
 use Rattle.lic_trim.proofs.ItemFronts.{no_item_front}
 use Rattle.lic_trim.proofs.CutLemmas.{tail_on}
@@ -36,7 +37,7 @@ not_on true h = absurd (false≢true h)
 
 -- ---- the row at a side
 
-pub white_at : (white : List ℕ) → AllByRecursion (λ w. is_whitespace w ≡ true) white → (i : ℕ) → i < length white → is_whitespace (get_or white i 0) ≡ true
+white_at : (white : List ℕ) → AllByRecursion (λ w. is_whitespace w ≡ true) white → (i : ℕ) → i < length white → is_whitespace (get_or white i 0) ≡ true
 white_at [] each i lt = absurd (omega arith)
 white_at (w ∷ white) each zero lt = each.0
 white_at (w ∷ white) each (suc i) lt = white_at white each.1 i (omega arith)
@@ -165,47 +166,87 @@ no_item_other c none =
 
 -- ---- the whole line
 
--- the end of a line lies behind its white space
-pub after_white : (white : List ℕ) (c : ℕ) (rest front : List ℕ) (e : ℕ) (more : List ℕ) → AllByRecursion (λ w. is_whitespace w ≡ true) white
-    → is_whitespace e ≡ false → white ++ c ∷ rest ≡ front ++ e ∷ more → (mid : List ℕ) × (c ∷ rest ≡ mid ++ e ∷ more)
-after_white [] c rest front e more each dark same = (front, same)
-after_white (w ∷ white) c rest [] e more each dark same =
-    let here : w ≡ e = ap (λ l. get_or l 0 0) same in
-    absurd (false≢true (sym dark ∙ sym (ap is_whitespace here) ∙ each.0))
-after_white (w ∷ white) c rest (f ∷ front) e more each dark same =
-    after_white white c rest front e more each.1 dark (ap (drop 1) same)
+all_append : (xs ys : List ℕ) → AllByRecursion (λ w. is_whitespace w ≡ true) xs → AllByRecursion (λ w. is_whitespace w ≡ true) ys
+    → AllByRecursion (λ w. is_whitespace w ≡ true) (xs ++ ys)
+all_append [] ys h k = k
+all_append (x ∷ xs) ys h k = (h.0, all_append xs ys h.1 k)
+
+all_reverse : (xs : List ℕ) → AllByRecursion (λ w. is_whitespace w ≡ true) xs → AllByRecursion (λ w. is_whitespace w ≡ true) (reverse xs)
+all_reverse [] h = tt
+all_reverse (x ∷ xs) h =
+    subst (AllByRecursion (λ w. is_whitespace w ≡ true)) (sym (reverse-append (x ∷ []) xs)) (all_append (reverse xs) (x ∷ []) (all_reverse xs h.1) (h.0, tt))
+
+module _ (rules : LineRules) (first second before last : ℕ) (line : List ℕ) (edges : HasEdges line first second before last) where
+  abbrev text : List ℕ
+  text = first ∷ second ∷ edges.past
+
+  abbrev rest : List ℕ
+  rest = text ++ edges.tail
+
+  abbrev n : ℕ
+  n = length edges.lead
+
+  abbrev m : ℕ
+  m = length (reverse edges.tail)
+
+  left : drop n line ≡ rest
+  left = ap (drop n) edges.all ∙ drop-append_seam edges.lead rest
+
+  way : reverse (drop n line) ≡ reverse edges.tail ++ last ∷ before ∷ reverse edges.ahead
+  way =
+      ap reverse left ∙ reverse-append text edges.tail
+      ∙ ap (λ l. reverse edges.tail ++ l) (ap reverse edges.end ∙ reverse-append edges.ahead (before ∷ last ∷ []))
+
+  long : length line ≡ n + (length text + length edges.tail)
+  long =
+      ap length edges.all ∙ length-append edges.lead rest ∙ ap (λ k. n + k) (length-append text edges.tail)
+
+  lead_white : (i : ℕ) → i < n → is_whitespace (get_or line i 0) ≡ true
+  lead_white i lt =
+      ap (λ l. is_whitespace (get_or l i 0)) edges.all ∙ ap is_whitespace (get_or-append edges.lead rest 0 i lt)
+      ∙ white_at edges.lead edges.lead_white i lt
+
+  tail_white : (i : ℕ) → length line - m ≤ i → i < length line → is_whitespace (get_or line i 0) ≡ true
+  tail_white i low high =
+      let ahead = edges.lead ++ text in
+      let parts : line ≡ ahead ++ edges.tail = edges.all ∙ sym (append_assoc edges.lead text edges.tail) in
+      let size = length-reverse edges.tail in
+      let all = ap length parts ∙ length-append ahead edges.tail in
+      ap (λ l. is_whitespace (get_or l i 0)) parts
+      ∙ ap is_whitespace (get_or-append_right ahead edges.tail (length ahead) i 0 refl (omega (arith, low, all, size)))
+      ∙ white_at edges.tail edges.tail_white (i - length ahead) (omega (arith, low, high, all, size))
+
+  pub cut_takes : cut_of rules whole_line line ≡ record { lead = n; item = 0; tail = m } → TakesSpaces (cut_of rules whole_line line) line
+  cut_takes is = subst (λ cut. TakesSpaces cut line) (sym is) (record {
+    within = omega (arith, long, length-reverse edges.tail);
+    lead = lead_white;
+    no_item = refl;
+    tail = tail_white;
+  })
 
 pub keeps_all : (rules : LineRules) (first second before last : ℕ) → first ≢ second → last ≢ before
     → ((past : List ℕ) → may_begin_with_any rules Front (first ∷ second ∷ past) ≡ false)
     → ((past : List ℕ) → may_begin_with_any rules End (last ∷ before ∷ past) ≡ false)
     → ((past : List ℕ) → item_length rules (first ∷ second ∷ past) ≡ 0)
     → KeepsAll rules first second before last
-keeps_all rules first second before last other other' no_front no_end no_item line front end =
-    let n = length front.white in
-    let rest = first ∷ second ∷ front.past in
+keeps_all rules first second before last other other' no_front no_end no_item line edges =
+    let n = length edges.lead in
+    let past = edges.past ++ edges.tail in
+    let rest = first ∷ second ∷ past in
+    let white = reverse edges.tail in
     let lead : n ≡ lead_length rules whole_line line =
-    row_two rules Front front.white first second front.past front.each front.first_dark other (no_front front.past)
-    ∙ ap (longest_front (is_sequence (is_walked_piece rules Front))) (sym front.all) in
-    let left : drop n line ≡ rest = ap (drop n) front.all ∙ drop-append_seam front.white rest in
+    row_two rules Front edges.lead first second past edges.lead_white edges.first_dark other (no_front past)
+    ∙ ap (longest_front (is_sequence (is_walked_piece rules Front))) (sym edges.all) in
+    let left' : drop n line ≡ rest = left rules first second before last line edges in
     let item : 0 ≡ item_after_lead rules whole_line (drop n line) =
-    sym (ap (λ l. item_length rules (l ++ [])) left ∙ ap (item_length rules) (append-nil rest) ∙ no_item front.past) in
-    let backwards : line ≡ reverse end.past ++ before ∷ last ∷ reverse end.white =
-    sym (reverse-reverse line) ∙ ap reverse end.all ∙ reverse-append end.white (last ∷ before ∷ end.past)
-    ∙ ap (λ l. l ++ reverse end.white) (reverse-append (last ∷ before ∷ []) end.past)
-    ∙ append_assoc (reverse end.past) (before ∷ last ∷ []) (reverse end.white) in
-    let part = after_white front.white first (second ∷ front.past) (reverse end.past) before (last ∷ reverse end.white) front.each end.second_dark
-    (sym front.all ∙ backwards) in
-    let way : reverse (drop n line) ≡ end.white ++ last ∷ before ∷ reverse part.0 =
-    ap reverse (left ∙ part.1 ∙ sym (append_assoc part.0 (before ∷ last ∷ []) (reverse end.white)))
-    ∙ reverse-append (part.0 ++ before ∷ last ∷ []) (reverse end.white)
-    ∙ ap₂ (λ a b. a ++ b) (reverse-reverse end.white) (reverse-append part.0 (before ∷ last ∷ [])) in
-    let tail : length end.white ≡ tail_length rules whole_line (drop n line) =
-    row_two rules End end.white last before (reverse part.0) end.each end.first_dark other' (no_end (reverse part.0))
-    ∙ ap (longest_front (is_sequence (is_walked_piece rules End))) (sym way)
+    sym (ap (λ l. item_length rules (l ++ [])) left' ∙ ap (item_length rules) (append-nil rest) ∙ no_item past) in
+    let tail : length white ≡ tail_length rules whole_line (drop n line) =
+    row_two rules End white last before (reverse edges.ahead) (all_reverse edges.tail edges.tail_white) edges.last_dark other' (no_end (reverse edges.ahead))
+    ∙ ap (longest_front (is_sequence (is_walked_piece rules End))) (sym (way rules first second before last line edges))
     ∙ tail_on rules whole_line (drop n line) (drop n line) refl refl in
     let item' : 0 ≡ item_after_lead rules whole_line (drop (lead_length rules whole_line line) line) =
-    item ∙ ap (λ m. item_after_lead rules whole_line (drop m line)) lead in
-    let tail' = tail ∙ ap₂ (λ m k. tail_length rules whole_line (drop m (drop k line))) item' lead in
-    let is : (let cut : LineCut = record { lead = n; item = 0; tail = length end.white } in cut) ≡ cut_of rules whole_line line =
+    item ∙ ap (λ k. item_after_lead rules whole_line (drop k line)) lead in
+    let tail' = tail ∙ ap₂ (λ k l. tail_length rules whole_line (drop k (drop l line))) item' lead in
+    let is : (let cut : LineCut = record { lead = n; item = 0; tail = length white } in cut) ≡ cut_of rules whole_line line =
     λ j. record { lead = lead j; item = item' j; tail = tail' j } in
-    sym is
+    cut_takes rules first second before last line edges (sym is)

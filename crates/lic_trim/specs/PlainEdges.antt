@@ -1,20 +1,24 @@
--- Lines of which nothing but white space is taken, as their first two characters and their last two show.
-use Rattle.std.specs.Prelude.{◌≡◌, ℕ, true, false, List, ◌∷◌, ◌++◌, length, reverse}
+-- Lines of which nothing but white space is taken, as two characters at each of their edges show.
+use Rattle.std.specs.Prelude.{◌≡◌, ℕ, true, false, List, [], ◌∷◌, ◌++◌}
 use Rattle.std.specs.List.{AllByRecursion}
 use Rattle.std.specs.Char.{is_whitespace}
 use Rattle.lic_kind.specs.LineRules.{LineRules}
 use Rattle.lic_trim.specs.Lines.{cut_of, whole_line}
+use Rattle.lic_trim.specs.Spaces.{TakesSpaces}
 
--- white space, and then two characters that are none
-pub record Opens (way : List ℕ) (c d : ℕ) : Type 0 where
-  pub white : List ℕ
+-- white space, then a text that begins with the first two of these characters and ends with the other two, and white space again
+pub record HasEdges (line : List ℕ) (first second before last : ℕ) : Type 0 where
+  pub lead : List ℕ
+  pub tail : List ℕ
   pub past : List ℕ
-  pub all : way ≡ white ++ c ∷ d ∷ past
-  pub each : AllByRecursion (λ w. is_whitespace w ≡ true) white
-  pub first_dark : is_whitespace c ≡ false
-  pub second_dark : is_whitespace d ≡ false
+  pub ahead : List ℕ
+  pub all : line ≡ lead ++ ((first ∷ second ∷ past) ++ tail)
+  pub end : first ∷ second ∷ past ≡ ahead ++ before ∷ last ∷ []
+  pub lead_white : AllByRecursion (λ w. is_whitespace w ≡ true) lead
+  pub tail_white : AllByRecursion (λ w. is_whitespace w ≡ true) tail
+  pub first_dark : is_whitespace first ≡ false
+  pub last_dark : is_whitespace last ≡ false
 
--- of a line with these edges only the white space is taken
+-- of each line with these edges white space alone is taken
 abbrev pub KeepsAll : LineRules → ℕ → ℕ → ℕ → ℕ → Type 0
-KeepsAll rules first second before last = (line : List ℕ) (front : Opens line first second) (end : Opens (reverse line) last before)
-    → cut_of rules whole_line line ≡ record { lead = length front.white; item = 0; tail = length end.white }
+KeepsAll rules first second before last = (line : List ℕ) → HasEdges line first second before last → TakesSpaces (cut_of rules whole_line line) line

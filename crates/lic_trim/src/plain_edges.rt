@@ -1,4 +1,4 @@
-//! Lines of which nothing but white space is taken, as their first two characters and their last two show.
+//! Lines of which nothing but white space is taken, as two characters at each of their edges show.
 ghost use Rattle.std.specs.Prelude.{◌≡◌, ℕ, ◌∷◌, List, IsTrue, false, chars};
 ghost use Rattle.lic_kind.specs.LineRules.{LineRules, rules_of};
 ghost use Rattle.lic_trim.specs.Lines.{cut_of, item_length, whole_line};
@@ -11,7 +11,7 @@ use crate::side::Side;
 use crate::space_sequences::begun_texts;
 use lic_kind::Rules;
 
-/// Whether nothing but white space can be taken at a side of which these are the first two characters that are none.
+/// Whether nothing but white space can be taken at a side of which these are the first character that is none and the one after it.
 #[inline(always)]
 fn is_plain(rules: &Rules, side: Side, first: char, second: char) -> bool
     ensures { IsTrue result → (past : List ℕ)
@@ -37,7 +37,8 @@ fn begins_no_item(first: char, second: char) -> bool
     !(ends | roman)
 }
 
-/// Whether nothing but white space is taken from a line, as far as its first two characters that are none and its last two show.
+/// Whether nothing but white space is taken from a line, as far as the first two characters and the last two of what it has between its
+/// white space show.
 #[inline(always)]
 fn keeps_all(rules: &Rules, first: char, second: char, before: char, last: char) -> bool
     ensures { IsTrue result → KeepsAll (rules_of rules.now) first second before last }
@@ -57,18 +58,20 @@ fn keeps_all(rules: &Rules, first: char, second: char, before: char, last: char)
     is_plain(rules, Side::End, last, before)
 }
 
-/// Whether all that is taken from a whole line is white space, as far as its first two characters that are none and its last two show.
+/// Whether all that is taken from a whole line is white space, as far as the first two characters and the last two of what it has
+/// between its white space show.
 pub fn text_takes_spaces(rules: &Rules, line: &str) -> bool
     ensures { IsTrue result → TakesSpaces (cut_of (rules_of rules.now) whole_line (chars line.now)) (chars line.now) }
 {
-    let mut front = line.trim_start().chars();
+    let text = line.trim();
+    let mut front = text.chars();
     let Some(first) = front.next() else {
         return false;
     };
     let Some(second) = front.next() else {
         return false;
     };
-    let mut end = line.trim_end().chars();
+    let mut end = text.chars();
     let Some(last) = end.next_back() else {
         return false;
     };
@@ -76,11 +79,7 @@ pub fn text_takes_spaces(rules: &Rules, line: &str) -> bool
         return false;
     };
     let _ = end.as_str();
-    if first.is_whitespace()
-        || second.is_whitespace()
-        || last.is_whitespace()
-        || before.is_whitespace()
-    {
+    if first.is_whitespace() || last.is_whitespace() {
         return false;
     }
     keeps_all(rules, first, second, before, last)
