@@ -9,10 +9,11 @@ from dataclasses import dataclass, field
 NONE = re.compile(r"no-grant-|same-as-|other-file-|[A-Za-z]+-exception-([\d.]+-)?notice")
 # tags of which not all is known
 UNKNOWN = re.compile(r"unknown-identifier|cut-|(OR|AND)-field(-[b-z])?$")
+CUT_FIELD = re.compile(r"cut-field(-[b-z])?$")
 EXPRESSION = re.compile(r"expression-(OR|AND|WITH)-(.*?)(-[b-d])?(-dot)?$")
 WHOLE = re.compile(r"(own-)?expression(-b|-end-\d+|-\d-dot)?$")
 SUFFIX = re.compile(r"(-(identifier|field|notice|mention))?(-[b-z])?(-dot)?$")
-TAG = re.compile(r".*-identifier(-[b-z])?(-dot)?$|expression-")
+TAG = re.compile(r".*-(identifier|field)(-[b-z])?(-dot)?$|expression-")
 # marks inside an identifier: they neither end a sentence nor begin a line
 JOINED = re.compile(rb"[a-z0-9+][-.+]+[a-z0-9]", re.IGNORECASE)
 # three of one mark are a separator, which no template sees
@@ -21,7 +22,8 @@ LONGEST = 200
 # names of Debian and older ones, of tags and fields
 OLDER = re.compile(r"([AL]?GPL|GFDL)-?v?(\d)(\.\d)?(\+?)$", re.IGNORECASE)
 SAME = {"Expat": "MIT", "Apache-2": "Apache-2.0", "Apache2": "Apache-2.0", "EPL-1": "EPL-1.0", "BSD3": "BSD-3-Clause",
-        "BSD-2": "BSD-2-Clause", "BSD-3": "BSD-3-Clause", "BSD_2_clause": "BSD-2-Clause", "BSD_3_clause": "BSD-3-Clause"}
+        "BSD-2": "BSD-2-Clause", "BSD-3": "BSD-3-Clause", "BSD_2_clause": "BSD-2-Clause", "BSD_3_clause": "BSD-3-Clause",
+        "GNU GPL": "GPL", "GNU LGPL": "LGPL", "New BSD": "BSD-3-Clause", "Modified BSD": "BSD-3-Clause", "Apache 2.0": "Apache-2.0"}
 FAMILIES = ("AFL", "AGPL", "Apache", "Artistic", "BSD", "CDDL", "EPL", "GFDL", "GPL", "LGPL", "MPL")
 
 
@@ -43,6 +45,8 @@ class Match:
         """The licence or the expression; '' where the template names none; None where not all of it is known."""
         if NONE.match(self.id):
             return ""
+        if CUT_FIELD.match(self.id):
+            return known_of(self.values[0])
         if UNKNOWN.match(self.id) or self.is_joined:
             return None
         expression = EXPRESSION.match(self.id)
@@ -75,8 +79,8 @@ class Match:
 
     @property
     def is_joined(self):
-        """Whether a dot after a tag, or three of one mark in it or after it, belong to it. Only the file tells; without it a dot does."""
-        if not (TAG.match(self.id) or WHOLE.match(self.id)):
+        """Whether a dot after a tag or field, or three of one mark in it or after it, belong to it. Only the file tells; without it a dot of a tag does."""
+        if not (TAG.match(self.id) or WHOLE.match(self.id)) or ("-field" in self.id and self.values):
             return False
         try:
             with open(self.file.encode("utf-8", "surrogateescape"), "rb") as file:
@@ -96,6 +100,15 @@ def length(text):
 def first_word(name):
     """A name of one's own, without a dot that ends a sentence or begins the next line."""
     return name.split()[0].rstrip(".")
+
+
+def known_of(beginning):
+    """The licence of a field that goes on, up to where it does: none where a mark follows at once. `GPL-2+ with` has an exception that is not known."""
+    exception = re.fullmatch(r"(.*?)[^\w+]*with", beginning, re.IGNORECASE | re.DOTALL)
+    apart = exception or re.fullmatch(r"(.*?)\s+([^\w\s]\s+)*[-+_]", beginning, re.DOTALL)
+    if not apart or re.search("/| or ", apart[1], re.IGNORECASE):
+        return None
+    return identifier(apart[1]) + (" WITH unknown" if exception else "")
 
 
 def identifier(name):
