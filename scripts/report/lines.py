@@ -9,7 +9,7 @@ from dataclasses import dataclass, field
 NONE = re.compile(r"no-grant-|same-as-|other-file-|[A-Za-z]+-exception-([\d.]+-)?notice")
 # tags of which not all is known
 UNKNOWN = re.compile(r"unknown-identifier|cut-|(OR|AND)-field(-[b-z])?$")
-CUT_FIELD = re.compile(r"cut-field(-[b-z])?$")
+CUT_FIELD = re.compile(r"cut-(.+)-field(-[b-z])?$")
 EXPRESSION = re.compile(r"expression-(OR|AND|WITH)-(.*?)(-[b-d])?(-dot)?$")
 WHOLE = re.compile(r"(own-)?expression(-b|-end-\d+|-\d-dot)?$")
 SUFFIX = re.compile(r"(-(identifier|field|notice|mention))?(-[b-z])?(-dot)?$")
@@ -22,8 +22,7 @@ LONGEST = 200
 # names of Debian and older ones, of tags and fields
 OLDER = re.compile(r"([AL]?GPL|GFDL)-?v?(\d)(\.\d)?(\+?)$", re.IGNORECASE)
 SAME = {"Expat": "MIT", "Apache-2": "Apache-2.0", "Apache2": "Apache-2.0", "EPL-1": "EPL-1.0", "BSD3": "BSD-3-Clause",
-        "BSD-2": "BSD-2-Clause", "BSD-3": "BSD-3-Clause", "BSD_2_clause": "BSD-2-Clause", "BSD_3_clause": "BSD-3-Clause",
-        "GNU GPL": "GPL", "GNU LGPL": "LGPL", "New BSD": "BSD-3-Clause", "Modified BSD": "BSD-3-Clause", "Apache 2.0": "Apache-2.0"}
+        "BSD-2": "BSD-2-Clause", "BSD-3": "BSD-3-Clause", "BSD_2_clause": "BSD-2-Clause", "BSD_3_clause": "BSD-3-Clause"}
 FAMILIES = ("AFL", "AGPL", "Apache", "Artistic", "BSD", "CDDL", "EPL", "GFDL", "GPL", "LGPL", "MPL")
 
 
@@ -46,7 +45,7 @@ class Match:
         if NONE.match(self.id):
             return ""
         if CUT_FIELD.match(self.id):
-            return known_of(self.values[0])
+            return self.known
         if UNKNOWN.match(self.id) or self.is_joined:
             return None
         expression = EXPRESSION.match(self.id)
@@ -62,6 +61,24 @@ class Match:
         if name == "DocumentRef":
             return f"DocumentRef-{self.values[0]}:LicenseRef-{first_word(self.values[1])}"
         return name.replace("-OR-", " OR ").replace("-WITH-", " WITH ")
+
+    @property
+    def known(self):
+        """The licence of a field that goes on, with an exception that is not known, or where the file shows that the mark is apart; else None."""
+        name = identifier(CUT_FIELD.match(self.id)[1])
+        if "-OR-" in name:
+            return None
+        if self.values[0].lower() == "with":
+            return f"{name} WITH unknown"
+        return name if self.before(self.starts[0]).isspace() else None
+
+    def before(self, place):
+        """The byte of the file before a place; none where there is no file."""
+        try:
+            with open(self.file.encode("utf-8", "surrogateescape"), "rb") as file:
+                return file.read(place)[-1:]
+        except OSError:
+            return b""
 
     @property
     def expression(self):
@@ -100,15 +117,6 @@ def length(text):
 def first_word(name):
     """A name of one's own, without a dot that ends a sentence or begins the next line."""
     return name.split()[0].rstrip(".")
-
-
-def known_of(beginning):
-    """The licence of a field that goes on, up to where it does: none where a mark follows at once. `GPL-2+ with` has an exception that is not known."""
-    exception = re.fullmatch(r"(.*?)[^\w+]*with", beginning, re.IGNORECASE | re.DOTALL)
-    apart = exception or re.fullmatch(r"(.*?)\s+([^\w\s]\s+)*[-+_]", beginning, re.DOTALL)
-    if not apart or re.search("/| or ", apart[1], re.IGNORECASE):
-        return None
-    return identifier(apart[1]) + (" WITH unknown" if exception else "")
 
 
 def identifier(name):

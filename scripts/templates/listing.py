@@ -55,7 +55,7 @@ def original_of(template):
 def kind_of(name):
     if name.startswith("no-grant"):
         return "no-grant"
-    if re.match("cut-(?!field)|expression-", name):
+    if re.match("cut-(?!.*-field)|expression-", name):
         return "expression"
     kind = KIND.search(name)
     return kind[1] if kind else "text"

@@ -5,7 +5,7 @@
 - Its original text is found as a comment in each of the styles below, among all templates.
 - The templates of tags and fields are those that tags.py, fields.py and expressions.py make of the lists beside them, and there are no others; those
   of examples/expressions are those of whole_expressions.py.
-- In fields of manifests, headers and copyright files each name is reported as itself, if at all, and one that goes on after it as `cut-field`.
+- In fields of manifests, headers and copyright files each name is reported as itself, if at all, and one that goes on after it as cut.
 - Tags that hold an expression are reported by one template each, with the value that is expected; random ones whole, or by a template that says that
   they are cut; by examples/expressions whole.
 - Sentences that give a licence, and those that only name one, are reported by what is expected, without the mentions and with them.
@@ -168,15 +168,15 @@ SENTENCES = [
     ("license = \"BSD-3-Clause-Clear\"", ["BSD-3-Clause-Clear"], []),
     ("license = \"Python-2.0.1\"", ["Python-2.0.1"], []),
     ("<metadata_license>CC0-1.0</metadata_license>", ["CC0-1.0"], []),
-    ("\"license\": \"MIT-Own\",", ["cut"], []),
-    ("\"license\": \"GPL-2.0-with-own-exception\",", ["cut"], []),
-    ("license = \"Apache-2.0 WITH LLVM-exception\"", ["cut"], []),
-    ("license = \"MIT OR Apache-2.0 OR Zlib\"", ["cut"], []),
-    ("license = \"Apache-2.0/MIT-0\"", ["cut"], []),
-    ("License: GPL-2.1", ["cut"], []),
-    ("License: GNU GPL-Own", ["cut"], []),
-    ("License: BSD-style", ["cut"], []),
-    ("License: GPL-2+ with OpenSSL exception", ["cut"], []),
+    ("\"license\": \"MIT-Own\",", ["cut-MIT"], []),
+    ("\"license\": \"GPL-2.0-with-own-exception\",", ["cut-GPL-2.0"], []),
+    ("license = \"Apache-2.0 WITH LLVM-exception\"", ["cut-Apache-2.0"], []),
+    ("license = \"MIT OR Apache-2.0 OR Zlib\"", ["cut-MIT-OR-Apache-2.0"], []),
+    ("license = \"Apache-2.0/MIT-0\"", ["cut-Apache-2.0-OR-MIT"], []),
+    ("License: GPL-2.1", ["cut-GPL-2"], []),
+    ("License: GNU GPL-Own", ["cut-GPL"], []),
+    ("License: BSD-style", ["cut-BSD"], []),
+    ("License: GPL-2+ with OpenSSL exception", ["cut-GPL-2+"], []),
     ("License: MIT + file LICENSE", ["MIT"], []),
     ("License: GPL-3 + file LICENSE", ["GPL-3"], []),
     ("License: MIT. Author: A. Author", ["MIT"], []),
@@ -351,14 +351,14 @@ def wrongly_called(program, both):
 
 
 def wrong_fields(program, folder):
-    """The fields in which something else is reported than the name that is there, or than `cut-field` where the name goes on."""
+    """The fields in which something else is reported than the name that is there, or than that it is cut where the name goes on."""
     expected = {}
     for kind, field in FIELDS.items():
         ends = ENDS + (ENDS_IN_QUOTES if re.search("['\"]{}['\"]", field) else [])
         for number, name in enumerate(fields.names()):
             expected[kind, name] = field.format(name), name
             # one of the ends for each name, each of them for many
-            expected[kind, name + ends[number % len(ends)]] = field.format(name + ends[number % len(ends)]), "cut"
+            expected[kind, name + ends[number % len(ends)]] = field.format(name + ends[number % len(ends)]), f"cut-{name}"
     faults = []
     with tempfile.TemporaryDirectory() as at:
         paths = {f"{at}/{number}": it for number, it in enumerate(expected)}
