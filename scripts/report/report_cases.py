@@ -55,6 +55,7 @@ FIELDS = [
     (["LGPL-2.1"], "LGPL-2.1", ["LGPL-2.1"]), (["MIT OR Zlib", "ISC"], "Expat or Zlib, and ISC", ["ISC", "MIT", "Zlib"]),
     (["(GPL-2.0+ WITH Linux-syscall-note) OR MIT"], "GPL-2+ with Linux syscall note exception or Expat", ["GPL-2.0+", "MIT"]),
     (["Apache-2.0 WITH LLVM-exception"], "Apache-2.0 with LLVM exception", ["Apache-2.0"]), (["unknown"], "unknown", ["NOASSERTION"]),
+    (["GPL-2.0-or-later WITH unknown"], "GPL-2+ with unknown exception", ["GPL-2.0-or-later"]),
     (["BSD", "public-domain"], "BSD and public-domain", ["LicenseRef-BSD", "LicenseRef-public-domain"]),
 ]
 # the answers of files, and the globs of each
