@@ -1,10 +1,12 @@
 //! Random texts, rich in what the fast way of reading has to look at twice, read as a plain reader reads them.
 
+use crate::drawn::{drawn_below, drawn_text, next_state};
 use crate::plain::read_plainly;
-use crate::shown::show_tokens;
+use crate::shown::{assert_same, show_tokens};
 use lic_kind::Rules;
-use lic_norm::{Feeder, Text, Words};
-use std::alloc::{AllocError, Global};
+use lic_norm::{Feeder, Text, TextFault, Words};
+use std::alloc::Global;
+use std::process::Abort;
 use std::test::Fail;
 
 /// What the texts are made of: words, marks that are joined, separators, comment marks, items, signs, addresses, letters beyond
@@ -122,43 +124,8 @@ const SIMPLE: &[&[u8]] = &[
     b"                                                              ",
 ];
 
-/// The next state of a generator (Knuth's linear congruential one).
-fn next_state(state: u64) -> u64 {
-    state
-        .wrapping_mul(6364136223846793005)
-        .wrapping_add(1442695040888963407)
-}
-
-/// A number below `count` that is drawn by a state.
-fn drawn_below(state: u64, count: usize) -> usize {
-    ((state >> 33) as usize).checked_rem(count).unwrap_or(0)
-}
-
-/// A text of so many of these fragments, and the state that follows.
-fn drawn_text(
-    alloc: Global,
-    fragments: &[&[u8]],
-    mut state: u64,
-    count: usize,
-) -> Result<(Vec<u8>, u64), AllocError> {
-    let mut text = Vec::new(alloc);
-    for _ in 0..count {
-        state = next_state(state);
-        let number = drawn_below(state, fragments.len());
-        text.extend_from_slice(fragments.get(number).copied().unwrap_or(b""))?;
-    }
-    Ok((text, state))
-}
-
-/// The tokens of a text that is fed in pieces of random lengths.
-fn read_in_pieces(
-    alloc: Global,
-    input: &[u8],
-    mut state: u64,
-    words: &Words,
-    rules: &Rules,
-) -> Result<String, Fail> {
-    let mut feeder = Feeder::new(alloc, words, rules);
+/// Feeds a text in pieces of random lengths.
+fn feed_pieces(feeder: &mut Feeder<'_>, input: &[u8], mut state: u64) -> Result<(), TextFault> {
     let mut start = 0;
     for end in 1..input.len() + 1 {
         state = next_state(state);
@@ -167,50 +134,86 @@ fn read_in_pieces(
             start = end;
         }
     }
-    Ok(show_tokens(alloc, &feeder.finish()?)?)
+    Ok(())
 }
 
-/// The first of some random texts of these fragments that the plain reader reads in another way, whole or in pieces, and what both
-/// make of it.
-fn first_difference(
+/// The tokens of a text that is fed in pieces of random lengths.
+fn shown_in_pieces(
     alloc: Global,
-    fragments: &[&[u8]],
-    words: &str,
+    input: &[u8],
+    state: u64,
+    words: &Words,
     rules: &Rules,
 ) -> Result<String, Fail> {
-    let words = Words::read(alloc, words)?;
+    let mut feeder = Feeder::new(alloc, words, rules);
+    feed_pieces(&mut feeder, input, state)?;
+    let text = feeder.finish()?;
+    Ok(show_tokens(alloc, &text)?)
+}
+
+/// The tokens of a text that is read at once.
+fn shown_whole(alloc: Global, input: &[u8], words: &Words, rules: &Rules) -> Result<String, Fail> {
+    let text = Text::read(alloc, input.to_vec(alloc)?, words, rules)?;
+    Ok(show_tokens(alloc, &text)?)
+}
+
+/// Reads a text plainly, at once and in pieces.
+fn try_text(
+    rt: &impl Abort,
+    alloc: Global,
+    input: &[u8],
+    state: u64,
+    words: &Words,
+    rules: &Rules,
+) -> Result<(), Fail> {
+    let wanted = read_plainly(alloc, input, words, rules)?;
+    let whole = shown_whole(alloc, input, words, rules)?;
+    assert_same(rt, whole.as_str(), wanted.as_str(), input, 0);
+    let pieces = shown_in_pieces(alloc, input, state, words, rules)?;
+    assert_same(rt, pieces.as_str(), wanted.as_str(), input, input.len());
+    Ok(())
+}
+
+/// Tries 1,500 random texts of these fragments.
+fn try_texts(
+    rt: &impl Abort,
+    alloc: Global,
+    fragments: &[&[u8]],
+    words: &Words,
+    rules: &Rules,
+) -> Result<(), Fail> {
     let mut state = 1u64;
     for number in 0..1500usize {
         let (input, next) = drawn_text(alloc, fragments, state, number % 60 + 1)?;
         state = next;
-        let wanted = read_plainly(alloc, &input, &words, rules)?;
-        let text = Text::read(alloc, input.to_vec(alloc)?, &words, rules)?;
-        let whole = show_tokens(alloc, &text)?;
-        let pieces = read_in_pieces(alloc, &input, state, &words, rules)?;
-        if wanted != whole || wanted != pieces {
-            return Ok(format!(in alloc;
-                "{input:?}: {wanted}; whole: {whole}; in pieces: {pieces}"
-            )?);
-        }
+        try_text(rt, alloc, &input, state, words, rules)?;
     }
-    Ok(String::new(alloc))
+    Ok(())
+}
+
+/// Tries random texts of these fragments by a list of equivalent words and by rules.
+fn try_fragments(
+    rt: &impl Abort,
+    alloc: Global,
+    fragments: &[&[u8]],
+    words: &str,
+    rules: &Rules,
+) -> Result<(), Fail> {
+    let words = Words::read(alloc, words)?;
+    try_texts(rt, alloc, fragments, &words, rules)
 }
 
 #[test]
 fn random_texts_are_read_by_the_profile(rt: HostRuntime) -> Result<(), Fail> {
     let rules = Rules::profile(rt.alloc());
-    let found = first_difference(rt.alloc(), FRAGMENTS, "", &rules)?;
-    assert_eq!(rt; found.as_str(), "");
-    Ok(())
+    try_fragments(&rt, rt.alloc(), FRAGMENTS, "", &rules)
 }
 
 #[test]
 fn random_texts_are_read_by_equivalent_words(rt: HostRuntime) -> Result<(), Fail> {
     let rules = Rules::profile(rt.alloc());
     let words = "sub-license,sub license\nfoo,foo bar foo\ncopyright owner,a\n";
-    let found = first_difference(rt.alloc(), FRAGMENTS, words, &rules)?;
-    assert_eq!(rt; found.as_str(), "");
-    Ok(())
+    try_fragments(&rt, rt.alloc(), FRAGMENTS, words, &rules)
 }
 
 #[test]
@@ -219,18 +222,20 @@ fn random_texts_are_read_by_other_rules(rt: HostRuntime) -> Result<(), Fail> {
         rt.alloc(),
         "lead //\nlead *\nlead-space Foo\ntail */\ntail-space |\ntail-repeat -\nitems off\nseparators off\n",
     )?;
-    let found = first_difference(rt.alloc(), FRAGMENTS, "sub-license,sub license\n", &rules)?;
-    assert_eq!(rt; found.as_str(), "");
-    Ok(())
+    try_fragments(
+        &rt,
+        rt.alloc(),
+        FRAGMENTS,
+        "sub-license,sub license\n",
+        &rules,
+    )
 }
 
 #[test]
 fn random_texts_of_simple_characters_are_read_by_the_profile(rt: HostRuntime) -> Result<(), Fail> {
     let rules = Rules::profile(rt.alloc());
     let words = "sub-license,sub license\nfoo,foo bar foo\n\u{E9}t\u{E9},a\n";
-    let found = first_difference(rt.alloc(), SIMPLE, words, &rules)?;
-    assert_eq!(rt; found.as_str(), "");
-    Ok(())
+    try_fragments(&rt, rt.alloc(), SIMPLE, words, &rules)
 }
 
 #[test]
@@ -239,7 +244,5 @@ fn random_texts_of_simple_characters_are_read_by_other_rules(rt: HostRuntime) ->
         rt.alloc(),
         "lead Foo\nlead-space .\ntail a\ntail-space -\ntail-repeat -\nitems off\nseparators off\n",
     )?;
-    let found = first_difference(rt.alloc(), SIMPLE, "sub-license,sub license\n", &rules)?;
-    assert_eq!(rt; found.as_str(), "");
-    Ok(())
+    try_fragments(&rt, rt.alloc(), SIMPLE, "sub-license,sub license\n", &rules)
 }
