@@ -1,26 +1,13 @@
 //! Inputs that come in pieces.
 
 use crate::drawn::drawn_text;
-use crate::shown::{assert_same, show_tokens};
+use crate::lists::{Lists, two_words};
+use crate::shown::{assert_same, shown, shown_whole};
 use lic_kind::Rules;
-use lic_norm::{Feeder, MAX_BYTES, Text, TextFault, Words, WordsFault, read_pieces};
+use lic_norm::{Feeder, MAX_BYTES, Words, read_pieces};
 use std::alloc::{AllocError, Global};
 use std::process::Abort;
 use std::test::Fail;
-
-/// What inputs are read by.
-#[derive(Drop)]
-struct Lists {
-    words: Words,
-    rules: Rules,
-}
-
-/// Two equivalent words, and the rules of the profile.
-fn with_two_words(alloc: Global) -> Result<Lists, WordsFault> {
-    let words = Words::read(alloc, "sub-license,sub license\n")?;
-    let rules = Rules::profile(alloc);
-    Ok(Lists { words, rules })
-}
 
 /// Feeds pieces of `size` bytes, whatever is answered: how many are refused.
 fn feed(feeder: &mut Feeder<'_>, input: &[u8], size: usize) -> usize {
@@ -39,37 +26,21 @@ fn feeder_after<'w>(alloc: Global, bytes: &[u8], words: &'w Words, rules: &'w Ru
     }
 }
 
-/// What comes of a front and of pieces after it: how many of these are refused, how many tokens are ready then, and the text.
-#[derive(Drop)]
-struct Outcome {
-    refused: usize,
-    ready: usize,
-    text: Result<Text, TextFault>,
-}
-
-/// What comes of a front and of pieces of `size` bytes after it.
-fn fed(alloc: Global, front: &[u8], rest: &[u8], size: usize, lists: &Lists) -> Outcome {
+/// A feeder that is fed a front at once, and a rest in pieces of `size` bytes.
+fn feeder_of<'w>(
+    alloc: Global,
+    front: &[u8],
+    rest: &[u8],
+    size: usize,
+    lists: &'w Lists,
+) -> Feeder<'w> {
     let mut feeder = feeder_after(alloc, rest, &lists.words, &lists.rules);
     feed(&mut feeder, front, MAX_BYTES);
-    let refused = feed(&mut feeder, rest, size);
-    let ready = feeder.ready();
-    let text = feeder.finish();
-    Outcome {
-        refused,
-        ready,
-        text,
-    }
+    feed(&mut feeder, rest, size);
+    feeder
 }
 
-/// The tokens of a text, or why there is none.
-fn shown(alloc: Global, text: Result<Text, TextFault>) -> Result<String, AllocError> {
-    match text {
-        Ok(text) => show_tokens(alloc, &text),
-        Err(fault) => format!(in alloc; "{fault}"),
-    }
-}
-
-/// What the tokens are of a front that is fed at once, and a rest that is fed in pieces of `size` bytes.
+/// What the tokens are of a front and of a rest that is fed in pieces of `size` bytes.
 fn shown_as_fed(
     alloc: Global,
     front: &[u8],
@@ -77,7 +48,7 @@ fn shown_as_fed(
     size: usize,
     lists: &Lists,
 ) -> Result<String, AllocError> {
-    shown(alloc, fed(alloc, front, rest, size, lists).text)
+    shown(alloc, feeder_of(alloc, front, rest, size, lists).finish())
 }
 
 /// What the tokens are of a list of two pieces.
@@ -88,12 +59,6 @@ fn shown_as_read(
     lists: &Lists,
 ) -> Result<String, AllocError> {
     let text = read_pieces(alloc, &[front, rest], &lists.words, &lists.rules);
-    shown(alloc, text)
-}
-
-/// What the tokens are of a whole.
-fn shown_whole(alloc: Global, input: &[u8], lists: &Lists) -> Result<String, AllocError> {
-    let text = Text::read(alloc, input.to_vec(alloc)?, &lists.words, &lists.rules);
     shown(alloc, text)
 }
 
@@ -173,7 +138,7 @@ const WORKED: &[(&[u8], &str)] = &[
 
 #[test]
 fn pieces_are_read_as_the_whole(rt: HostRuntime) -> Result<(), Fail> {
-    let lists = with_two_words(rt.alloc())?;
+    let lists = two_words(rt.alloc())?;
     for (input, wanted) in WORKED {
         try_cuts(&rt, rt.alloc(), input, wanted, &lists)?;
     }
@@ -213,7 +178,7 @@ fn try_all_drawn(rt: &impl Abort, alloc: Global, lists: &Lists) -> Result<(), Al
 
 #[test]
 fn random_pieces_are_read_as_the_whole(rt: HostRuntime) -> Result<(), Fail> {
-    let lists = with_two_words(rt.alloc())?;
+    let lists = two_words(rt.alloc())?;
     try_all_drawn(&rt, rt.alloc(), &lists)?;
     Ok(())
 }
@@ -225,12 +190,12 @@ const LINES: &[u8] =
 /// How many tokens of these lines are ready once they are fed.
 fn count_ready(alloc: Global, lines: usize, lists: &Lists) -> usize {
     let (input, _) = LINES.split_at(lines.saturating_mul(2).min(LINES.len()));
-    fed(alloc, b"", input, 2, lists).ready
+    feeder_of(alloc, b"", input, 2, lists).ready()
 }
 
 #[test]
 fn tokens_are_ready_as_lines_come(rt: HostRuntime) -> Result<(), Fail> {
-    let lists = with_two_words(rt.alloc())?;
+    let lists = two_words(rt.alloc())?;
     for lines in 1..33usize {
         let ready = count_ready(rt.alloc(), lines, &lists);
         assert!(rt; ready.saturating_add(12) >= lines && ready <= lines);
@@ -238,18 +203,23 @@ fn tokens_are_ready_as_lines_come(rt: HostRuntime) -> Result<(), Fail> {
     Ok(())
 }
 
-/// What comes of an input that is as long as may be, and of four bytes more.
-fn fed_too_much(alloc: Global) -> Result<Outcome, Fail> {
-    let lists = with_two_words(alloc)?;
+/// Feeds as many bytes as there may be and four more: how many of these are refused, how many tokens are ready then, and what is
+/// shown.
+fn refused(alloc: Global, lists: &Lists) -> Result<(usize, usize, String), AllocError> {
     let long = vec![in alloc; b'a'; MAX_BYTES]?;
-    Ok(fed(alloc, &long, b"b\nc\n", 1, &lists))
+    let mut feeder = Feeder::new(alloc, &lists.words, &lists.rules);
+    feed(&mut feeder, &long, MAX_BYTES);
+    let refused = feed(&mut feeder, b"b\nc\n", 1);
+    let ready = feeder.ready();
+    let shown = shown(alloc, feeder.finish())?;
+    Ok((refused, ready, shown))
 }
 
 #[test]
 fn a_refusal_stays(rt: HostRuntime) -> Result<(), Fail> {
-    let fed = fed_too_much(rt.alloc())?;
-    assert_eq!(rt; (fed.refused, fed.ready), (4, 0));
-    let shown = shown(rt.alloc(), fed.text)?;
-    assert_eq!(rt; shown.as_str(), "X2: more than 67108864 bytes");
+    let lists = two_words(rt.alloc())?;
+    let (refused, ready, shown) = refused(rt.alloc(), &lists)?;
+    assert_eq!(rt; (refused, ready), (4, 0));
+    assert_same(&rt, shown.as_str(), "X2: more than 67108864 bytes", b"", 0);
     Ok(())
 }

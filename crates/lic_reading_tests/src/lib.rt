@@ -6,6 +6,8 @@ mod drawn;
 #[cfg(test)]
 mod feeders;
 #[cfg(test)]
+mod lists;
+#[cfg(test)]
 mod plain;
 #[cfg(test)]
 mod random;

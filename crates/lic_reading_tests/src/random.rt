@@ -1,11 +1,12 @@
 //! Random texts, rich in what the fast way of reading has to look at twice, read as a plain reader reads them.
 
 use crate::drawn::{drawn_below, drawn_text, next_state};
+use crate::lists::{Lists, lists_of};
 use crate::plain::read_plainly;
-use crate::shown::{assert_same, show_tokens};
+use crate::shown::{assert_same, shown, shown_whole};
 use lic_kind::Rules;
-use lic_norm::{Feeder, Text, TextFault, Words};
-use std::alloc::Global;
+use lic_norm::Feeder;
+use std::alloc::{AllocError, Global};
 use std::process::Abort;
 use std::test::Fail;
 
@@ -124,17 +125,16 @@ const SIMPLE: &[&[u8]] = &[
     b"                                                              ",
 ];
 
-/// Feeds a text in pieces of random lengths.
-fn feed_pieces(feeder: &mut Feeder<'_>, input: &[u8], mut state: u64) -> Result<(), TextFault> {
+/// Feeds a text in pieces of random lengths, whatever is answered: a refusal stays.
+fn feed_pieces(feeder: &mut Feeder<'_>, input: &[u8], mut state: u64) {
     let mut start = 0;
     for end in 1..input.len() + 1 {
         state = next_state(state);
         if end == input.len() || drawn_below(state, 40) == 0 {
-            feeder.feed(input.get(start..end).unwrap_or(b""))?;
+            let _ = feeder.feed(input.get(start..end).unwrap_or(b""));
             start = end;
         }
     }
-    Ok(())
 }
 
 /// The tokens of a text that is fed in pieces of random lengths.
@@ -142,19 +142,11 @@ fn shown_in_pieces(
     alloc: Global,
     input: &[u8],
     state: u64,
-    words: &Words,
-    rules: &Rules,
-) -> Result<String, Fail> {
-    let mut feeder = Feeder::new(alloc, words, rules);
-    feed_pieces(&mut feeder, input, state)?;
-    let text = feeder.finish()?;
-    Ok(show_tokens(alloc, &text)?)
-}
-
-/// The tokens of a text that is read at once.
-fn shown_whole(alloc: Global, input: &[u8], words: &Words, rules: &Rules) -> Result<String, Fail> {
-    let text = Text::read(alloc, input.to_vec(alloc)?, words, rules)?;
-    Ok(show_tokens(alloc, &text)?)
+    lists: &Lists,
+) -> Result<String, AllocError> {
+    let mut feeder = Feeder::new(alloc, &lists.words, &lists.rules);
+    feed_pieces(&mut feeder, input, state);
+    shown(alloc, feeder.finish())
 }
 
 /// Reads a text plainly, at once and in pieces.
@@ -163,13 +155,12 @@ fn try_text(
     alloc: Global,
     input: &[u8],
     state: u64,
-    words: &Words,
-    rules: &Rules,
-) -> Result<(), Fail> {
-    let wanted = read_plainly(alloc, input, words, rules)?;
-    let whole = shown_whole(alloc, input, words, rules)?;
+    lists: &Lists,
+) -> Result<(), AllocError> {
+    let wanted = read_plainly(alloc, input, &lists.words, &lists.rules)?;
+    let whole = shown_whole(alloc, input, lists)?;
     assert_same(rt, whole.as_str(), wanted.as_str(), input, 0);
-    let pieces = shown_in_pieces(alloc, input, state, words, rules)?;
+    let pieces = shown_in_pieces(alloc, input, state, lists)?;
     assert_same(rt, pieces.as_str(), wanted.as_str(), input, input.len());
     Ok(())
 }
@@ -179,41 +170,41 @@ fn try_texts(
     rt: &impl Abort,
     alloc: Global,
     fragments: &[&[u8]],
-    words: &Words,
-    rules: &Rules,
-) -> Result<(), Fail> {
+    lists: &Lists,
+) -> Result<(), AllocError> {
     let mut state = 1u64;
     for number in 0..1500usize {
         let (input, next) = drawn_text(alloc, fragments, state, number % 60 + 1)?;
         state = next;
-        try_text(rt, alloc, &input, state, words, rules)?;
+        try_text(rt, alloc, &input, state, lists)?;
     }
     Ok(())
 }
 
-/// Tries random texts of these fragments by a list of equivalent words and by rules.
+/// Tries random texts of these fragments by the words of a list and by rules.
 fn try_fragments(
     rt: &impl Abort,
     alloc: Global,
     fragments: &[&[u8]],
     words: &str,
-    rules: &Rules,
+    rules: Rules,
 ) -> Result<(), Fail> {
-    let words = Words::read(alloc, words)?;
-    try_texts(rt, alloc, fragments, &words, rules)
+    let lists = lists_of(alloc, words, rules)?;
+    try_texts(rt, alloc, fragments, &lists)?;
+    Ok(())
 }
 
 #[test]
 fn random_texts_are_read_by_the_profile(rt: HostRuntime) -> Result<(), Fail> {
     let rules = Rules::profile(rt.alloc());
-    try_fragments(&rt, rt.alloc(), FRAGMENTS, "", &rules)
+    try_fragments(&rt, rt.alloc(), FRAGMENTS, "", rules)
 }
 
 #[test]
 fn random_texts_are_read_by_equivalent_words(rt: HostRuntime) -> Result<(), Fail> {
     let rules = Rules::profile(rt.alloc());
     let words = "sub-license,sub license\nfoo,foo bar foo\ncopyright owner,a\n";
-    try_fragments(&rt, rt.alloc(), FRAGMENTS, words, &rules)
+    try_fragments(&rt, rt.alloc(), FRAGMENTS, words, rules)
 }
 
 #[test]
@@ -227,7 +218,7 @@ fn random_texts_are_read_by_other_rules(rt: HostRuntime) -> Result<(), Fail> {
         rt.alloc(),
         FRAGMENTS,
         "sub-license,sub license\n",
-        &rules,
+        rules,
     )
 }
 
@@ -235,7 +226,7 @@ fn random_texts_are_read_by_other_rules(rt: HostRuntime) -> Result<(), Fail> {
 fn random_texts_of_simple_characters_are_read_by_the_profile(rt: HostRuntime) -> Result<(), Fail> {
     let rules = Rules::profile(rt.alloc());
     let words = "sub-license,sub license\nfoo,foo bar foo\n\u{E9}t\u{E9},a\n";
-    try_fragments(&rt, rt.alloc(), SIMPLE, words, &rules)
+    try_fragments(&rt, rt.alloc(), SIMPLE, words, rules)
 }
 
 #[test]
@@ -244,5 +235,5 @@ fn random_texts_of_simple_characters_are_read_by_other_rules(rt: HostRuntime) ->
         rt.alloc(),
         "lead Foo\nlead-space .\ntail a\ntail-space -\ntail-repeat -\nitems off\nseparators off\n",
     )?;
-    try_fragments(&rt, rt.alloc(), SIMPLE, "sub-license,sub license\n", &rules)
+    try_fragments(&rt, rt.alloc(), SIMPLE, "sub-license,sub license\n", rules)
 }

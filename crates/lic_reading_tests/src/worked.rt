@@ -1,8 +1,7 @@
 //! Worked texts: joined marks, separators, comment marks and items, over borders of columns of 64 bytes too.
 
-use crate::shown::{assert_same, show_tokens};
-use lic_kind::Rules;
-use lic_norm::{Text, Words};
+use crate::lists::{Lists, no_words};
+use crate::shown::{assert_same, shown_whole};
 use std::alloc::{AllocError, Global};
 use std::process::Abort;
 use std::test::Fail;
@@ -51,25 +50,26 @@ fn after_blanks(alloc: Global, blanks: usize, text: &str) -> Result<Vec<u8>, All
     Ok(input)
 }
 
-/// Reads a text after so many blanks by the profile.
+/// Reads a text after so many blanks.
 fn try_worked(
     rt: &impl Abort,
     alloc: Global,
     blanks: usize,
     text: &str,
     wanted: &str,
-) -> Result<(), Fail> {
+    lists: &Lists,
+) -> Result<(), AllocError> {
     let input = after_blanks(alloc, blanks, text)?;
-    let read = Text::read(alloc, input, &Words::none(alloc), &Rules::profile(alloc))?;
-    let shown = show_tokens(alloc, &read)?;
-    assert_same(rt, shown.as_str(), wanted, text.as_bytes(), blanks);
+    let found = shown_whole(alloc, &input, lists)?;
+    assert_same(rt, found.as_str(), wanted, text.as_bytes(), blanks);
     Ok(())
 }
 
 #[test]
 fn worked_texts_have_these_tokens(rt: HostRuntime) -> Result<(), Fail> {
+    let lists = no_words(rt.alloc());
     for (blanks, text, wanted) in WORKED {
-        try_worked(&rt, rt.alloc(), *blanks, text, wanted)?;
+        try_worked(&rt, rt.alloc(), *blanks, text, wanted, &lists)?;
     }
     Ok(())
 }
