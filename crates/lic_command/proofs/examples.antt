@@ -1,0 +1,2 @@
+-- How the program ends on arguments that are written out.
+mod EndingExamples
