@@ -51,7 +51,7 @@ def build(top):
     to = f"{top}/crates/{PROGRAM}/out"
     open(f"{to}/build.log", "wb").close()
     proving = Proving(top, [PROGRAM], f"{to}/build.log")
-    say(f"proving {len(proving.all)} crates and building the program: an hour on four cores")
+    say(f"proving {len(proving.all)} crates and building the program: half an hour on four quick cores, an hour on slow ones")
     say("README.md says how to have an unproved answer in two minutes")
     if keeps_proofs(top):
         is_built = proving.run() and built(top, proving.all, to, lambda line: None)

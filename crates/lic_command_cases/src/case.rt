@@ -6,7 +6,7 @@ use anyhow::Context;
 use lic_command::command;
 use lic_stream::Counted;
 use serde_json::Value;
-use std::alloc::Global;
+use std::alloc::{AllocError, Global};
 use std::rt::Files;
 
 /// The file of line rules that a run may be given.
@@ -68,6 +68,17 @@ impl<'a> Case<'a> {
         })
     }
 
+    /// The arguments of a run, with a file of line rules or without.
+    fn arguments(&self, alloc: Global, with_rules: bool) -> Result<Vec<&'a str>, AllocError> {
+        let mut arguments = Vec::new(alloc);
+        arguments.extend_from_slice(self.arguments.as_slice())?;
+        if with_rules {
+            arguments.push("--rules")?;
+            arguments.push(RULES)?;
+        }
+        Ok(arguments)
+    }
+
     /// Runs the case in the folder where its files lie.
     pub fn run<Rt: Files + AllocGlobal + Clone + Drop>(
         &self,
@@ -75,22 +86,27 @@ impl<'a> Case<'a> {
         alloc: Global,
         with_rules: bool,
     ) -> anyhow::Result<Outcome> {
-        let mut arguments = Vec::new(alloc);
-        arguments.extend_from_slice(self.arguments.as_slice())?;
-        if with_rules {
-            arguments.extend_from_slice(&["--rules", RULES])?;
-        }
-        let mut output = Vec::new(alloc);
-        let mut errors = Vec::new(alloc);
-        let mut input = Counted::new(self.input.as_slice());
-        let mut out = Counted::new(&mut output);
-        let mut err = Counted::new(&mut errors);
-        let words = arguments.as_slice();
-        let status = command(rt, alloc, words, &mut input, &mut out, &mut err);
-        Ok(Outcome {
-            status,
-            output,
-            errors,
-        })
+        let arguments = self.arguments(alloc, with_rules)?;
+        Ok(run_on(rt, alloc, &arguments, self.input.as_slice()))
+    }
+}
+
+/// What comes of these arguments and this input.
+fn run_on<Rt: Files + AllocGlobal + Clone + Drop>(
+    rt: &Rt,
+    alloc: Global,
+    arguments: &[&str],
+    input: &[u8],
+) -> Outcome {
+    let mut output = Vec::new(alloc);
+    let mut errors = Vec::new(alloc);
+    let mut input = Counted::new(input);
+    let mut out = Counted::new(&mut output);
+    let mut err = Counted::new(&mut errors);
+    let status = command(rt, alloc, arguments, &mut input, &mut out, &mut err);
+    Outcome {
+        status,
+        output,
+        errors,
     }
 }

@@ -10,15 +10,26 @@ use std::rt::Files;
 /// The folder of the templates.
 const FOLDER: &str = "T";
 
+/// Lays a file of the bytes that a case gives.
+fn lay_file<Rt: Files>(rt: &Rt, alloc: Global, path: &str, text: &Value) -> anyhow::Result<()> {
+    let bytes = bytes_of(alloc, Some(text))?;
+    fs::write(rt, path, bytes.as_slice())?;
+    Ok(())
+}
+
+/// Lays a template in its folder.
+fn lay_template<Rt: Files>(rt: &Rt, alloc: Global, id: &str, text: &Value) -> anyhow::Result<()> {
+    let path = format!(in alloc; "{FOLDER}/{id}.template.txt")?;
+    lay_file(rt, alloc, path.as_str(), text)
+}
+
 /// Lays templates in their folder.
 fn lay_templates<Rt: Files>(rt: &Rt, alloc: Global, templates: &Value) -> anyhow::Result<()> {
     let Some(members) = templates.as_object() else {
         return Ok(());
     };
     for (id, text) in members {
-        let path = format!(in alloc; "{FOLDER}/{id}.template.txt")?;
-        let bytes = bytes_of(alloc, Some(text))?;
-        fs::write(rt, path.as_str(), bytes.as_slice())?;
+        lay_template(rt, alloc, id, text)?;
     }
     Ok(())
 }
@@ -38,8 +49,7 @@ fn lay_files<Rt: Files>(rt: &Rt, alloc: Global, files: &Value) -> anyhow::Result
         return Ok(());
     };
     for (name, text) in members {
-        let bytes = bytes_of(alloc, Some(text))?;
-        fs::write(rt, name.as_str(), bytes.as_slice())?;
+        lay_file(rt, alloc, name, text)?;
     }
     Ok(())
 }

@@ -2,7 +2,8 @@
 
 use lic_command::command;
 use lic_test_streams::{Awaited, Pieces};
-use std::alloc::Global;
+use std::alloc::{AllocError, Global};
+use std::process::Abort;
 use std::rt::Files;
 use std::test::Fail;
 
@@ -89,49 +90,52 @@ fn call<Rt: Files + AllocGlobal + Clone + Drop>(
     (status, output.is_whole(), errors.is_whole())
 }
 
+/// Fails the test where a call has not this status, or not all came that is awaited of it.
+fn assert_ended(rt: &impl Abort, ended: (u8, bool, bool), status: u8, what: &[&str]) {
+    assert_eq!(rt; ended, (status, true, true), "{what:?}");
+}
+
 #[test]
 fn a_call_ends_with_its_status(rt: HostRuntime) {
     for case in CASES {
         let input = Pieces::of(case.input);
-        let ended = call(
-            &rt,
-            rt.alloc(),
-            case.arguments,
-            input,
-            case.output,
-            case.errors,
-        );
-        assert_eq!(rt; ended, (case.status, true, true), "{:?}", case.arguments);
+        let (arguments, output, errors) = (case.arguments, case.output, case.errors);
+        let ended = call(&rt, rt.alloc(), arguments, input, output, errors);
+        assert_ended(&rt, ended, case.status, arguments);
     }
+}
+
+/// The arguments of a scan of a folder that is not there, and these.
+fn scan_with(alloc: Global, given: &[&'static str]) -> Result<Vec<&'static str>, AllocError> {
+    let mut arguments = Vec::new(alloc);
+    arguments.extend_from_slice(&["scan", "--templates", "no folder"])?;
+    arguments.extend_from_slice(given)?;
+    Ok(arguments)
 }
 
 #[test]
 fn the_first_fault_of_the_arguments_is_reported(rt: HostRuntime) -> Result<(), Fail> {
     for (given, errors) in FAULTS {
-        let mut arguments = Vec::new(rt.alloc());
-        arguments.extend_from_slice(&["scan", "--templates", "no folder"])?;
-        arguments.extend_from_slice(given)?;
+        let arguments = scan_with(rt.alloc(), given)?;
         let input = Pieces::of(b"");
         let ended = call(&rt, rt.alloc(), arguments.as_slice(), input, b"", errors);
-        assert_eq!(rt; ended, (2, true, true), "{given:?}");
+        assert_ended(&rt, ended, 2, given);
     }
     Ok(())
 }
 
 #[test]
-fn a_failed_stream_is_reported(rt: HostRuntime) {
+fn a_failed_read_is_reported(rt: HostRuntime) {
     let cut = Pieces::failing(b"foo", 2);
-    let ended = call(
-        &rt,
-        rt.alloc(),
-        &["tokens"],
-        cut,
-        b"",
-        b"licscan: -: cannot be read\n",
-    );
-    assert_eq!(rt; ended, (2, true, true), "a read that fails");
+    let errors = b"licscan: -: cannot be read\n";
+    let ended = call(&rt, rt.alloc(), &["tokens"], cut, b"", errors);
+    assert_ended(&rt, ended, 2, &["a read that fails"]);
+}
+
+#[test]
+fn a_failed_write_is_reported(rt: HostRuntime) {
     let whole = Pieces::of(b"foo");
     let errors = b"licscan: standard output: cannot be written\n";
     let ended = call(&rt, rt.alloc(), &["tokens"], whole, b"-\t0", errors);
-    assert_eq!(rt; ended, (2, true, true), "a write that fails");
+    assert_ended(&rt, ended, 2, &["a write that fails"]);
 }

@@ -3,7 +3,7 @@
 use lic_engine::{Memory, RunFault, check, run, run_tokens};
 use lic_find::Ask;
 use lic_kind::Rules;
-use lic_markup::read_template;
+use lic_markup::{Template, read_template};
 use lic_norm::Words;
 use lic_set::Set;
 use lic_stream::Sink;
@@ -96,47 +96,123 @@ fn count_reads(case: &Case) -> usize {
     }
 }
 
+/// A list of equivalent words, and rules.
+#[derive(Drop)]
+struct Lists {
+    words: Words,
+    rules: Rules,
+}
+
+/// No words, and the rules of the profile.
+fn profile(alloc: Global) -> Lists {
+    Lists {
+        words: Words::none(alloc),
+        rules: Rules::profile(alloc),
+    }
+}
+
+/// A template under its identifier.
+fn template_of(
+    alloc: Global,
+    id: &str,
+    text: &str,
+    lists: &Lists,
+) -> Result<(String, Template), Fail> {
+    let template = read_template(alloc, text, &lists.words, &lists.rules)?;
+    Ok((id.to_string(alloc)?, template))
+}
+
 /// The set of these templates.
-fn set_of(alloc: Global, templates: Templates, words: &Words, rules: &Rules) -> Result<Set, Fail> {
+fn set_of(alloc: Global, templates: Templates, lists: &Lists) -> Result<Set, Fail> {
     let mut all = Vec::new(alloc);
     for (id, text) in templates {
-        let template = read_template(alloc, text, words, rules)?;
-        all.push((id.to_string(alloc)?, template))?;
+        all.push(template_of(alloc, id, text, lists)?)?;
     }
     Ok(Set::build(alloc, all)?)
+}
+
+/// What a run answers.
+fn run_engine(
+    alloc: Global,
+    ask: &Ask,
+    set: &Set,
+    lists: &Lists,
+    input: &mut Pieces,
+    out: &mut Awaited,
+) -> Result<bool, RunFault> {
+    let mut memory = Memory::new(alloc);
+    run(
+        &mut memory,
+        "-",
+        input,
+        out,
+        set,
+        &lists.words,
+        &lists.rules,
+        ask,
+    )
+}
+
+/// What a run that writes tokens answers.
+fn run_on_tokens(
+    alloc: Global,
+    lists: &Lists,
+    input: &mut Pieces,
+    out: &mut Awaited,
+) -> Result<bool, RunFault> {
+    let mut memory = Memory::new(alloc);
+    run_tokens(&mut memory, "-", input, out, &lists.words, &lists.rules)
+}
+
+/// What a call answers.
+fn answer_of(
+    alloc: Global,
+    call: &Call,
+    set: &Set,
+    lists: &Lists,
+    input: &mut Pieces,
+    out: &mut Awaited,
+) -> Result<bool, RunFault> {
+    match call {
+        Call::Run(ask) => run_engine(alloc, ask, set, lists, input, out),
+        Call::Tokens => run_on_tokens(alloc, lists, input, out),
+        Call::Check => check(alloc, set, &lists.words, out, &lists.rules),
+    }
 }
 
 /// What a call answers, whether its writer has all that it has room for, and how often it failed.
 type Outcome = (Result<bool, RunFault>, bool, u64);
 
-/// Makes a call by the rules of the profile. The read of this number fails, and the writer has room for this beginning.
+/// Makes a call over these templates. The read of this number fails, and the writer has room for this beginning.
+fn outcome_over(
+    alloc: Global,
+    case: &Case,
+    set: &Set,
+    lists: &Lists,
+    fails_at: usize,
+    room: &'static [u8],
+) -> Outcome {
+    let mut input = Pieces::failing(case.input, fails_at);
+    let mut out = Awaited::of(room);
+    let answer = answer_of(alloc, &case.call, set, lists, &mut input, &mut out);
+    (answer, out.is_whole(), out.failures())
+}
+
+/// Makes a call by the rules of the profile.
 fn outcome_of(
     alloc: Global,
     case: &Case,
     fails_at: usize,
     room: &'static [u8],
 ) -> Result<Outcome, Fail> {
-    let words = Words::none(alloc);
-    let rules = Rules::profile(alloc);
-    let set = set_of(alloc, case.templates, &words, &rules)?;
-    let mut input = Pieces::failing(case.input, fails_at);
-    let mut out = Awaited::of(room);
-    let mut memory = Memory::new(alloc);
-    let answer = match &case.call {
-        Call::Run(ask) => run(
-            &mut memory,
-            "-",
-            &mut input,
-            &mut out,
-            &set,
-            &words,
-            &rules,
-            ask,
-        ),
-        Call::Tokens => run_tokens(&mut memory, "-", &mut input, &mut out, &words, &rules),
-        Call::Check => check(alloc, &set, &words, &mut out, &rules),
-    };
-    Ok((answer, out.is_whole(), out.failures()))
+    let lists = profile(alloc);
+    let set = set_of(alloc, case.templates, &lists)?;
+    Ok(outcome_over(alloc, case, &set, &lists, fails_at, room))
+}
+
+/// Fails the test where a call comes to something else than what is wanted.
+fn assert_outcome(rt: &impl Abort, outcome: Outcome, wanted: Outcome, what: &str, number: usize) {
+    assert_eq!(rt; outcome, wanted, "{what} {number}");
 }
 
 /// Makes a call with each of its reads failed in turn, and with none.
@@ -144,10 +220,10 @@ fn fail_reads(rt: &impl Abort, alloc: Global, case: &Case) -> Result<(), Fail> {
     let reads = count_reads(case);
     for k in 0..reads {
         let outcome = outcome_of(alloc, case, k + 1, b"")?;
-        assert_eq!(rt; outcome, (Err(RunFault::Read), true, 0), "read {k}");
+        assert_outcome(rt, outcome, (Err(RunFault::Read), true, 0), "read", k);
     }
     let outcome = outcome_of(alloc, case, reads.saturating_add(1), case.report)?;
-    assert_eq!(rt; outcome, (Ok(true), true, 0), "no read failed");
+    assert_outcome(rt, outcome, (Ok(true), true, 0), "no read failed of", reads);
     Ok(())
 }
 
@@ -164,14 +240,16 @@ fn fail_writes(rt: &impl Abort, alloc: Global, case: &Case) -> Result<(), Fail> 
     let all = case.report.len();
     for room in 0..all {
         let outcome = outcome_of(alloc, case, 0, &case.report[..room])?;
-        assert_eq!(rt;
+        assert_outcome(
+            rt,
             outcome,
             (Err(RunFault::Write), true, 1),
-            "with room for {room}"
+            "with room for",
+            room,
         );
     }
     let outcome = outcome_of(alloc, case, 0, case.report)?;
-    assert_eq!(rt; outcome, (Ok(true), true, 0), "with room for all");
+    assert_outcome(rt, outcome, (Ok(true), true, 0), "with room for all", all);
     Ok(())
 }
 

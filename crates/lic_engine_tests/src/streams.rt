@@ -1,7 +1,7 @@
 //! A reader and a writer of std's kind of which one call fails and later ones succeed: each call is made once, and its failure is answered.
 
 use lic_stream::{Counted, ReadFault, Sink, Source, WriteFailed, put_all, read_up_to};
-use std::alloc::Global;
+use std::alloc::{AllocError, Global};
 use std::io;
 use std::io::{ErrorKind, Read, Write};
 use std::process::Abort;
@@ -67,24 +67,35 @@ impl Write for Page<'_> {
     }
 }
 
+/// What two reads answer, and how many failures are counted after each.
+type Reads = (
+    Result<Vec<u8>, ReadFault>,
+    u64,
+    Result<Vec<u8>, ReadFault>,
+    u64,
+);
+
 /// Reads to the end, where this call fails, and then reads what is left.
-fn fail_read(rt: &impl Abort, alloc: Global, kind: ErrorKind, fails_at: usize) -> Result<(), Fail> {
-    let mut calls = 0;
+fn read_twice(alloc: Global, kind: ErrorKind, fails_at: usize, calls: &mut usize) -> Reads {
     let mut source = Counted::new(Letters {
         rest: TEXT,
-        calls: &mut calls,
+        calls,
         fails_at,
         kind,
     });
-    let limit = TEXT.len() + 1;
-    let failed = read_up_to(alloc, &mut source, limit);
-    assert_eq!(rt; failed, Err(ReadFault::Read), "{kind:?} at {fails_at}");
-    assert_eq!(rt; source.failures(), 1, "{kind:?}");
-    let bytes = read_up_to(alloc, &mut source, limit)?;
-    assert_eq!(rt; source.failures(), 1, "{kind:?}");
+    let failed = read_up_to(alloc, &mut source, TEXT.len() + 1);
+    let failures = source.failures();
+    let rest = read_up_to(alloc, &mut source, TEXT.len() + 1);
+    (failed, failures, rest, source.failures())
+}
+
+fn try_read(rt: &impl Abort, alloc: Global, kind: ErrorKind, before: usize) -> Result<(), Fail> {
+    let mut calls = 0;
+    let reads = read_twice(alloc, kind, before.saturating_add(1), &mut calls);
     // a byte for each call before the one that failed
-    assert_eq!(rt; bytes.len().saturating_add(fails_at), limit, "{kind:?}");
-    assert!(rt; TEXT.ends_with(bytes.as_slice()), "{kind:?}");
+    let rest = TEXT.get(before..).unwrap_or(b"").to_vec(alloc)?;
+    let wanted = (Err(ReadFault::Read), 1, Ok(rest), 1);
+    assert_eq!(rt; reads, wanted, "{kind:?} after {before}");
     assert_eq!(rt; calls, TEXT.len() + 2, "{kind:?}");
     Ok(())
 }
@@ -93,50 +104,75 @@ fn fail_read(rt: &impl Abort, alloc: Global, kind: ErrorKind, fails_at: usize) -
 fn a_failed_read_is_not_tried_again(rt: HostRuntime) -> Result<(), Fail> {
     for kind in KINDS {
         for before in 0..TEXT.len() + 1 {
-            fail_read(&rt, rt.alloc(), *kind, before + 1)?;
+            try_read(&rt, rt.alloc(), *kind, before)?;
         }
     }
     Ok(())
 }
 
+/// What two writes answer, and how many failures are counted after each.
+type Writes = (Result<(), WriteFailed>, u64, Result<(), WriteFailed>, u64);
+
 /// Writes a text, where this call fails, and then writes it again.
-fn fail_write(
-    rt: &impl Abort,
-    alloc: Global,
+fn write_twice(
+    taken: &mut Vec<u8>,
     kind: Option<ErrorKind>,
     fails_at: usize,
-) -> Result<(), Fail> {
-    let mut taken = Vec::new(alloc);
-    let mut calls = 0;
+    calls: &mut usize,
+) -> Writes {
     let mut sink = Counted::new(Page {
-        taken: &mut taken,
-        calls: &mut calls,
+        taken,
+        calls,
         fails_at,
         kind,
     });
     let failed = put_all(&mut sink, TEXT);
-    assert_eq!(rt; failed, Err(WriteFailed), "{kind:?} at {fails_at}");
-    assert_eq!(rt; sink.failures(), 1, "{kind:?}");
-    put_all(&mut sink, TEXT)?;
-    assert_eq!(rt; sink.failures(), 1, "{kind:?}");
-    // a byte for each call before the one that failed
+    let failures = sink.failures();
+    let again = put_all(&mut sink, TEXT);
+    (failed, failures, again, sink.failures())
+}
+
+/// What is taken where the call after so many fails: a byte for each call before it, and then all.
+fn wanted_after(alloc: Global, before: usize) -> Result<Vec<u8>, AllocError> {
+    let mut wanted = TEXT.get(..before).unwrap_or(b"").to_vec(alloc)?;
+    wanted.extend_from_slice(TEXT)?;
+    Ok(wanted)
+}
+
+fn try_write(
+    rt: &impl Abort,
+    alloc: Global,
+    kind: Option<ErrorKind>,
+    before: usize,
+) -> Result<(), Fail> {
+    let (mut taken, mut calls) = (Vec::new(alloc), 0);
+    let writes = write_twice(&mut taken, kind, before.saturating_add(1), &mut calls);
     assert_eq!(rt;
-        taken.len().saturating_add(1),
-        fails_at.saturating_add(TEXT.len()),
-        "{kind:?}"
+        writes,
+        (Err(WriteFailed), 1, Ok(()), 1),
+        "{kind:?} after {before}"
     );
-    assert!(rt; taken.ends_with(TEXT), "{kind:?}");
-    assert_eq!(rt; calls, fails_at.saturating_add(TEXT.len()), "{kind:?}");
+    assert_eq!(rt;
+        taken,
+        wanted_after(alloc, before)?,
+        "{kind:?} after {before}"
+    );
+    assert_eq!(rt; calls, before.saturating_add(TEXT.len() + 1), "{kind:?}");
     Ok(())
+}
+
+/// Fails the call after so many, by each error and by taking nothing.
+fn try_writes(rt: &impl Abort, alloc: Global, before: usize) -> Result<(), Fail> {
+    for kind in KINDS {
+        try_write(rt, alloc, Some(*kind), before)?;
+    }
+    try_write(rt, alloc, None, before)
 }
 
 #[test]
 fn a_failed_write_is_not_tried_again(rt: HostRuntime) -> Result<(), Fail> {
     for before in 0..TEXT.len() {
-        for kind in KINDS {
-            fail_write(&rt, rt.alloc(), Some(*kind), before + 1)?;
-        }
-        fail_write(&rt, rt.alloc(), None, before + 1)?;
+        try_writes(&rt, rt.alloc(), before)?;
     }
     Ok(())
 }

@@ -4,10 +4,12 @@ ghost use Rattle.std.specs.Prelude.{All, IfOk, IsTrue};
 ghost use Rattle.lic_bundles.specs.Bundles.{AreApart, IsOf};
 ghost use Rattle.lic_set.specs.declared.triple.Triple.{Triple};
 
+use crate::shown::assert_same;
 use lic_bundles::{Bundle, Triples};
 use lic_set::Triple;
 use std::alloc::{AllocError, Global};
 use std::fmt::Write;
+use std::process::Abort;
 use std::test::Fail;
 
 /// Bundles as a table writes them: from, to, last token, template.
@@ -51,15 +53,31 @@ fn bundles(alloc: Global, listed: Listed) -> Result<Vec<Bundle>, AllocError>
     Ok(all)
 }
 
-fn shown(alloc: Global, triples: Triples) -> Result<String, Fail> {
-    let mut shown = String::new(alloc);
+/// Adds a triple: its first token, its last token and its template.
+fn add_triple(shown: &mut String, triple: Triple) -> Result<(), AllocError> {
+    let (first, last, template) = (triple.first, triple.last, triple.template);
+    write!(shown, "{first}-{last}:{template} ")
+}
+
+fn add_triples(shown: &mut String, triples: Triples) -> Result<(), AllocError> {
     for triple in triples {
-        write!(
-            shown,
-            "{}-{}:{} ",
-            triple.first, triple.last, triple.template
-        )?;
+        add_triple(shown, triple)?;
     }
+    Ok(())
+}
+
+/// The triples of a table's bundles after a triple.
+fn triples_after(
+    alloc: Global,
+    listed: Listed,
+    after: Option<Triple>,
+) -> Result<Triples, AllocError> {
+    Triples::new(alloc, bundles(alloc, listed)?, after)
+}
+
+fn shown_after(alloc: Global, listed: Listed, after: Option<Triple>) -> Result<String, AllocError> {
+    let mut shown = String::new(alloc);
+    add_triples(&mut shown, triples_after(alloc, listed, after)?)?;
     Ok(shown)
 }
 
@@ -73,59 +91,68 @@ const WORKED: Listed = &[
     (0, 0, 6, 1),
 ];
 
+/// Triples, as first token, last token and template, and those of the worked list after each.
+const AFTER: &[((usize, usize, usize), &str)] = &[
+    // after each of them
+    (
+        (0, 3, 0),
+        "0-6:1 1-3:0 2-2:5 2-3:0 2-6:1 3-3:0 3-3:2 3-6:1 4-6:1 9-12:0 10-12:0 ",
+    ),
+    (
+        (0, 6, 1),
+        "1-3:0 2-2:5 2-3:0 2-6:1 3-3:0 3-3:2 3-6:1 4-6:1 9-12:0 10-12:0 ",
+    ),
+    (
+        (1, 3, 0),
+        "2-2:5 2-3:0 2-6:1 3-3:0 3-3:2 3-6:1 4-6:1 9-12:0 10-12:0 ",
+    ),
+    (
+        (2, 2, 5),
+        "2-3:0 2-6:1 3-3:0 3-3:2 3-6:1 4-6:1 9-12:0 10-12:0 ",
+    ),
+    ((2, 3, 0), "2-6:1 3-3:0 3-3:2 3-6:1 4-6:1 9-12:0 10-12:0 "),
+    ((2, 6, 1), "3-3:0 3-3:2 3-6:1 4-6:1 9-12:0 10-12:0 "),
+    ((3, 3, 0), "3-3:2 3-6:1 4-6:1 9-12:0 10-12:0 "),
+    ((3, 3, 2), "3-6:1 4-6:1 9-12:0 10-12:0 "),
+    ((3, 6, 1), "4-6:1 9-12:0 10-12:0 "),
+    ((4, 6, 1), "9-12:0 10-12:0 "),
+    ((9, 12, 0), "10-12:0 "),
+    ((10, 12, 0), ""),
+    // after triples that are none of them
+    (
+        (0, 3, 1),
+        "0-6:1 1-3:0 2-2:5 2-3:0 2-6:1 3-3:0 3-3:2 3-6:1 4-6:1 9-12:0 10-12:0 ",
+    ),
+    ((2, 7, 0), "3-3:0 3-3:2 3-6:1 4-6:1 9-12:0 10-12:0 "),
+    ((3, 3, 1), "3-3:2 3-6:1 4-6:1 9-12:0 10-12:0 "),
+    ((5, 0, 0), "9-12:0 10-12:0 "),
+    ((10, 12, 1), ""),
+    ((usize::MAX, usize::MAX, usize::MAX), ""),
+];
+
+fn try_after(
+    rt: &impl Abort,
+    alloc: Global,
+    after: Option<Triple>,
+    wanted: &str,
+) -> Result<(), AllocError> {
+    let shown = shown_after(alloc, WORKED, after)?;
+    assert_same(rt, shown.as_str(), wanted, "triples after a triple");
+    Ok(())
+}
+
+const ALL: &str = "0-3:0 0-6:1 1-3:0 2-2:5 2-3:0 2-6:1 3-3:0 3-3:2 3-6:1 4-6:1 9-12:0 10-12:0 ";
+
 #[test]
 fn gives_triples_in_order_after_any_triple(rt: HostRuntime) -> Result<(), Fail> {
-    let alloc = rt.alloc();
-    let all = Triples::new(alloc, bundles(alloc, WORKED)?, None)?;
-    assert_eq!(rt;
-        shown(alloc, all)?.as_str(),
-        "0-3:0 0-6:1 1-3:0 2-2:5 2-3:0 2-6:1 3-3:0 3-3:2 3-6:1 4-6:1 9-12:0 10-12:0 "
-    );
-    let table: &[((usize, usize, usize), &str)] = &[
-        // after each of them
-        (
-            (0, 3, 0),
-            "0-6:1 1-3:0 2-2:5 2-3:0 2-6:1 3-3:0 3-3:2 3-6:1 4-6:1 9-12:0 10-12:0 ",
-        ),
-        (
-            (0, 6, 1),
-            "1-3:0 2-2:5 2-3:0 2-6:1 3-3:0 3-3:2 3-6:1 4-6:1 9-12:0 10-12:0 ",
-        ),
-        (
-            (1, 3, 0),
-            "2-2:5 2-3:0 2-6:1 3-3:0 3-3:2 3-6:1 4-6:1 9-12:0 10-12:0 ",
-        ),
-        (
-            (2, 2, 5),
-            "2-3:0 2-6:1 3-3:0 3-3:2 3-6:1 4-6:1 9-12:0 10-12:0 ",
-        ),
-        ((2, 3, 0), "2-6:1 3-3:0 3-3:2 3-6:1 4-6:1 9-12:0 10-12:0 "),
-        ((2, 6, 1), "3-3:0 3-3:2 3-6:1 4-6:1 9-12:0 10-12:0 "),
-        ((3, 3, 0), "3-3:2 3-6:1 4-6:1 9-12:0 10-12:0 "),
-        ((3, 3, 2), "3-6:1 4-6:1 9-12:0 10-12:0 "),
-        ((3, 6, 1), "4-6:1 9-12:0 10-12:0 "),
-        ((4, 6, 1), "9-12:0 10-12:0 "),
-        ((9, 12, 0), "10-12:0 "),
-        ((10, 12, 0), ""),
-        // after triples that are none of them
-        (
-            (0, 3, 1),
-            "0-6:1 1-3:0 2-2:5 2-3:0 2-6:1 3-3:0 3-3:2 3-6:1 4-6:1 9-12:0 10-12:0 ",
-        ),
-        ((2, 7, 0), "3-3:0 3-3:2 3-6:1 4-6:1 9-12:0 10-12:0 "),
-        ((3, 3, 1), "3-3:2 3-6:1 4-6:1 9-12:0 10-12:0 "),
-        ((5, 0, 0), "9-12:0 10-12:0 "),
-        ((10, 12, 1), ""),
-        ((usize::MAX, usize::MAX, usize::MAX), ""),
-    ];
-    for ((first, last, template), want) in table {
+    try_after(&rt, rt.alloc(), None, ALL)?;
+    for ((first, last, template), wanted) in AFTER {
         let after = Triple {
             first: *first,
             last: *last,
             template: *template,
         };
-        let left = Triples::new(alloc, bundles(alloc, WORKED)?, Some(after))?;
-        assert_eq!(rt; shown(alloc, left)?.as_str(), *want);
+        try_after(&rt, rt.alloc(), Some(after), wanted)?;
     }
     Ok(())
 }
@@ -148,17 +175,24 @@ fn overlapping(alloc: Global, count: u32) -> Result<Vec<Bundle>, AllocError>
     Ok(all)
 }
 
-#[test]
-fn many_triples_end_soon(rt: HostRuntime) -> Result<(), Fail> {
-    let alloc = rt.alloc();
+/// How many triples there are, and whether each comes after the one before.
+fn count_rising(triples: Triples) -> (u64, bool) {
     let mut before = None;
     let mut count = 0u64;
-    for triple in Triples::new(alloc, overlapping(alloc, 100_000)?, None)? {
+    let mut is_rising = true;
+    for triple in triples {
         let triple = Some(triple);
-        assert!(rt; before < triple);
+        is_rising &= before < triple;
         before = triple;
         count = count.saturating_add(1);
     }
-    assert_eq!(rt; count, 1_000_000);
+    (count, is_rising)
+}
+
+#[test]
+fn many_triples_end_soon(rt: HostRuntime) -> Result<(), Fail> {
+    let bundles = overlapping(rt.alloc(), 100_000)?;
+    let triples = Triples::new(rt.alloc(), bundles, None)?;
+    assert_eq!(rt; count_rising(triples), (1_000_000, true));
     Ok(())
 }

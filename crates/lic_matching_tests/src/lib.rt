@@ -22,6 +22,8 @@ mod runs;
 #[cfg(test)]
 mod sets;
 #[cfg(test)]
+mod shown;
+#[cfg(test)]
 mod spans;
 #[cfg(test)]
 mod trees;

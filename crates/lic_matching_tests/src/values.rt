@@ -1,56 +1,65 @@
 //! The values of matches.
 
 use crate::profile::{set_of, text_of};
+use crate::shown::assert_same;
 use lic_find::is_match;
-use lic_norm::Text;
-use lic_set::Triple;
+use lic_norm::{Span, Text};
+use lic_set::{Set, Triple};
 use lic_vars::{Value, assign};
-use std::alloc::Global;
+use std::alloc::{AllocError, Global};
 use std::fmt::Write;
+use std::process::Abort;
 use std::test::Fail;
 
-// Values, each as `name start end`, or `name -`.
-fn shown_values(alloc: Global, values: &[Value<'_>]) -> Result<String, Fail> {
-    let mut shown = String::new(alloc);
-    for value in values {
-        match value.span {
-            Some(span) => write!(shown, "{} {} {};", value.name, span.start, span.end)?,
-            None => write!(shown, "{} -;", value.name)?,
-        }
+/// Adds a value, as `name start end`, or `name -`.
+fn add_value(shown: &mut String, name: &str, span: Option<Span>) -> Result<(), AllocError> {
+    shown.push_str(name)?;
+    match span {
+        Some(span) => write!(shown, " {} {};", span.start, span.end),
+        None => shown.push_str(" -;"),
     }
-    Ok(shown)
 }
 
-// Those of a match of a template in a text.
-fn shown_of(
+fn add_values(shown: &mut String, values: &[Value<'_>]) -> Result<(), AllocError> {
+    for value in values {
+        add_value(shown, value.name, value.span)?;
+    }
+    Ok(())
+}
+
+/// Adds those of a match.
+fn add_match(
     alloc: Global,
-    template: &str,
+    shown: &mut String,
+    set: &Set,
     text: &Text,
-    first: usize,
-    last: usize,
-) -> Result<String, Fail> {
-    let set = set_of(alloc, &[template])?;
-    let triple = Triple {
-        first,
-        last,
-        template: 0,
-    };
-    if !is_match(alloc, &set, text, triple)? {
+    triple: Triple,
+) -> Result<(), Fail> {
+    if !is_match(alloc, set, text, triple)? {
         return Err(Fail::from("no match"));
     }
-    shown_values(alloc, &assign(alloc, &set, text, triple)?)
+    let values = assign(alloc, set, text, triple)?;
+    Ok(add_values(shown, &values)?)
 }
 
-// Those in a source.
-fn shown(
+/// Those of a match of a template in a source.
+fn shown_of(
     alloc: Global,
     template: &str,
     source: &str,
     first: usize,
     last: usize,
 ) -> Result<String, Fail> {
+    let triple = Triple {
+        first,
+        last,
+        template: 0,
+    };
+    let set = set_of(alloc, &[template])?;
     let text = text_of(alloc, source)?;
-    shown_of(alloc, template, &text, first, last)
+    let mut shown = String::new(alloc);
+    add_match(alloc, &mut shown, &set, &text, triple)?;
+    Ok(shown)
 }
 
 const TWO: &str =
@@ -64,20 +73,34 @@ const BEHIND: &str =
 const ABSENT: &str =
     r#"q <<beginOptional>><<var;name="w";original="";match="z">><<endOptional>><<var;name="v";original="";match=".*">>"#;
 
-// Matches that no default report has, since shorter ones lie within them.
+/// Matches that no default report has, since shorter ones lie within them, and their values.
+const WORKED: &[(&str, &str, usize, usize, &str)] = &[
+    (TWO, "x of y of z", 0, 4, "a 0 1;b 5 11;"),
+    (TWO, "x of y of z", 0, 2, "a 0 1;b 5 6;"),
+    (BEFORE, "x y foo bar", 0, 3, "c 0 3;"),
+    (BEFORE, "x y foo bar", 2, 3, "c -;"),
+    (BEHIND, "q b", 0, 1, "v -;"),
+    (ABSENT, "q b", 0, 1, "w -;v 2 3;"),
+];
+
+fn try_match(
+    rt: &impl Abort,
+    alloc: Global,
+    template: &str,
+    source: &str,
+    first: usize,
+    last: usize,
+    wanted: &str,
+) -> Result<(), Fail> {
+    let shown = shown_of(alloc, template, source, first, last)?;
+    assert_same(rt, shown.as_str(), wanted, source);
+    Ok(())
+}
+
 #[test]
 fn values_are_those_of_the_least_record(rt: HostRuntime) -> Result<(), Fail> {
-    let table: &[(&str, &str, usize, usize, &str)] = &[
-        (TWO, "x of y of z", 0, 4, "a 0 1;b 5 11;"),
-        (TWO, "x of y of z", 0, 2, "a 0 1;b 5 6;"),
-        (BEFORE, "x y foo bar", 0, 3, "c 0 3;"),
-        (BEFORE, "x y foo bar", 2, 3, "c -;"),
-        (BEHIND, "q b", 0, 1, "v -;"),
-        (ABSENT, "q b", 0, 1, "w -;v 2 3;"),
-    ];
-    for (template, text, first, last, expected) in table {
-        let shown = shown(rt.alloc(), template, text, *first, *last)?;
-        assert_eq!(&rt; shown.as_str(), *expected, "{template:?} on {text:?}");
+    for (template, source, first, last, wanted) in WORKED {
+        try_match(&rt, rt.alloc(), template, source, *first, *last, wanted)?;
     }
     Ok(())
 }

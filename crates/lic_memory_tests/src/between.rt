@@ -2,7 +2,7 @@
 
 ghost use Rattle.std.specs.Prelude.{◌≡◌, ◌≤◌, length};
 
-use crate::lent::{CHOICE, OF, OPTIONAL, TWO, Templates, lend};
+use crate::lent::{CHOICE, Lists, OF, OPTIONAL, TWO, Templates, profile, set_lent, text_lent};
 use crate::refused::{Refused, retried};
 use lic_auto::{Back, Run};
 use lic_ere::Ere;
@@ -13,6 +13,7 @@ use lic_rows::{Bits, and_into, any_from, is_zero, or_into, shift_up_one};
 use lic_set::{Set, Triple};
 use lic_stream::{Counted, Sink, Source};
 use std::alloc::{AllocError, Global};
+use std::process::Abort;
 
 /// A request that no system grants. To `scripts/refused_growths/fail_nth.c`, where that is preloaded, it is a sign: from the first on
 /// each request is refused and counted, up to the next.
@@ -78,12 +79,26 @@ struct Machines<'a> {
     finder: Finder<'a>,
 }
 
-fn machines_of<'a>(alloc: Global, set: &'a Set, text: &'a Text) -> Result<Machines<'a>, Refused> {
-    Ok(Machines {
+/// Puts machines where the caller says.
+fn make_machines<'a>(
+    alloc: Global,
+    set: &'a Set,
+    text: &'a Text,
+    made: &mut Option<Machines<'a>>,
+) -> Result<(), Refused> {
+    *made = Some(Machines {
         run: Run::new(alloc, set)?,
         back: Back::new(alloc, set)?,
         finder: Finder::new(alloc, set, text)?,
-    })
+    });
+    Ok(())
+}
+
+/// Machines; made again if memory runs out.
+fn machines_of<'a>(rt: &impl Abort, alloc: Global, set: &'a Set, text: &'a Text) -> Machines<'a> {
+    let mut made = None;
+    retried(rt, || make_machines(alloc, set, text, &mut made));
+    made.expect(rt, "machines")
 }
 
 /// Lets a machine read the text: whether it gives the first template that describes all of it.
@@ -143,32 +158,42 @@ fn tells_templates(set: &Set) -> bool {
     set.len() > 0
 }
 
+/// Whether machines answer rightly, and those that read do so again.
+fn answers(machines: &mut Machines<'_>, text: &Text, case: &Case) -> bool {
+    let (run, back) = (&mut machines.run, &mut machines.back);
+    finds(&mut machines.finder, case.matches)
+        && reads_on(run, text, case.whole)
+        && reads_back(back, text)
+        && reads_on(run, text, case.whole)
+        && reads_back(back, text)
+}
+
+/// Whether what is made is told and the machines answer rightly between two signs.
+fn answers_between(
+    alloc: Global,
+    machines: &mut Machines<'_>,
+    set: &Set,
+    text: &Text,
+    case: &Case,
+) -> bool {
+    let is_begun = sign(alloc);
+    let is_right = tells_tokens(text) && tells_templates(set) && answers(machines, text, case);
+    let is_ended = sign(alloc);
+    is_begun & is_ended & is_right
+}
+
+fn try_case(rt: &impl Abort, alloc: Global, case: &Case, lists: &Lists) {
+    let set = set_lent(rt, alloc, case.templates, lists);
+    let text = text_lent(rt, alloc, case.input, lists);
+    let mut machines = machines_of(rt, alloc, &set, &text);
+    assert!(rt; answers_between(alloc, &mut machines, &set, &text, case));
+}
+
 #[test]
 fn machines_take_no_memory_once_made(rt: HostRuntime) {
-    let words = Words::none(rt.alloc());
-    let rules = Rules::profile(rt.alloc());
+    let lists = profile(rt.alloc());
     for case in CASES {
-        let mut lent = None;
-        retried(&rt, || {
-            let templates = case.templates;
-            lend(rt.alloc(), templates, case.input, &words, &rules, &mut lent)
-        });
-        let (set, text) = lent.expect(&rt, "a set and a text");
-        let mut made = None;
-        retried(&rt, || {
-            made = Some(machines_of(rt.alloc(), &set, &text)?);
-            Ok(())
-        });
-        let mut machines = made.expect(&rt, "machines");
-        let is_begun = sign(rt.alloc());
-        let is_told = tells_tokens(&text) && tells_templates(&set);
-        let is_found = finds(&mut machines.finder, case.matches);
-        let is_read = reads_on(&mut machines.run, &text, case.whole)
-            && reads_back(&mut machines.back, &text)
-            && reads_on(&mut machines.run, &text, case.whole)
-            && reads_back(&mut machines.back, &text);
-        let is_ended = sign(rt.alloc());
-        assert!(rt; is_begun & is_ended & is_told & is_found & is_read);
+        try_case(&rt, rt.alloc(), case, &lists);
     }
 }
 
@@ -176,8 +201,8 @@ fn machines_take_no_memory_once_made(rt: HostRuntime) {
 const LINE: &[u8] = b"a b c d e f g h i j k l m n o p q r s t u v w x y z\n";
 
 /// A feeder that was fed a line.
-fn fed<'w>(alloc: Global, words: &'w Words, rules: &'w Rules) -> Result<Feeder<'w>, Refused> {
-    let mut feeder = Feeder::new(alloc, words, rules);
+fn fed<'w>(alloc: Global, lists: &'w Lists) -> Result<Feeder<'w>, Refused> {
+    let mut feeder = Feeder::new(alloc, &lists.words, &lists.rules);
     feeder.feed(LINE).map_err(Refused::Text)?;
     Ok(feeder)
 }
@@ -212,22 +237,33 @@ fn tells_letters(pattern: &Ere) -> bool {
     is_set && kind_of('a') == Kind::Word && kind_of('\u{2029}') == Kind::Blank
 }
 
+/// Puts a pattern where the caller says.
+fn read_pattern(alloc: Global, read: &mut Option<Ere>) -> Result<(), Refused> {
+    *read = Some(lic_ere::read(alloc, "[^d-z]").map_err(Refused::Pattern)?);
+    Ok(())
+}
+
+/// A pattern; made again if memory runs out.
+fn pattern_of(rt: &impl Abort, alloc: Global) -> Ere {
+    let mut read = None;
+    retried(rt, || read_pattern(alloc, &mut read));
+    read.expect(rt, "a pattern")
+}
+
+/// Whether what is empty is made, and what is settled and read is told, between two signs.
+fn tells_between(alloc: Global, feeder: &Feeder<'_>, pattern: &Ere) -> bool {
+    let is_begun = sign(alloc);
+    let is_told = makes(alloc) && tells_settled(feeder) && tells_letters(pattern);
+    let is_ended = sign(alloc);
+    is_begun & is_ended & is_told
+}
+
 #[test]
 fn what_is_made_empty_takes_no_memory(rt: HostRuntime) {
-    let words = Words::none(rt.alloc());
-    let rules = Rules::profile(rt.alloc());
-    let feeder = retried(&rt, || fed(rt.alloc(), &words, &rules));
-    let mut read = None;
-    retried(&rt, || {
-        read = Some(lic_ere::read(rt.alloc(), "[^d-z]").map_err(Refused::Pattern)?);
-        Ok(())
-    });
-    let pattern = read.expect(&rt, "a pattern");
-    let is_begun = sign(rt.alloc());
-    let is_made = makes(rt.alloc());
-    let is_told = tells_settled(&feeder) && tells_letters(&pattern);
-    let is_ended = sign(rt.alloc());
-    assert!(rt; is_begun & is_ended & is_made & is_told);
+    let lists = profile(rt.alloc());
+    let feeder = retried(&rt, || fed(rt.alloc(), &lists));
+    let pattern = pattern_of(&rt, rt.alloc());
+    assert!(rt; tells_between(rt.alloc(), &feeder, &pattern));
 }
 
 /// Whether the kernels on words give the rows that they should.
@@ -256,17 +292,38 @@ fn moves_bits(row: &mut Bits, other: &Bits) -> bool
     is_moved && is_last && is_clear && row.len() == other.len()
 }
 
+/// Two rows of bits.
+fn two_rows(alloc: Global) -> Result<(Bits, Bits), Refused> {
+    Ok((Bits::new(alloc, 70)?, Bits::new(alloc, 70)?))
+}
+
+/// Puts them where the caller says.
+fn make_rows(alloc: Global, made: &mut Option<(Bits, Bits)>) -> Result<(), Refused> {
+    *made = Some(two_rows(alloc)?);
+    Ok(())
+}
+
+/// Two rows of bits; made again if memory runs out.
+fn rows_of(rt: &impl Abort, alloc: Global) -> (Bits, Bits) {
+    let mut made = None;
+    retried(rt, || make_rows(alloc, &mut made));
+    made.expect(rt, "two rows")
+}
+
+/// Whether words and bits are moved rightly between two signs.
+fn moves_between(alloc: Global, row: &mut Bits, other: &Bits) -> bool
+    requires same { length row.old ≡ length other.now }
+    requires room { 70 ≤ length row.old }
+{
+    let is_begun = sign(alloc);
+    let is_right = moves_words() & moves_bits(row, other);
+    let is_ended = sign(alloc);
+    is_begun & is_ended & is_right
+}
+
 #[test]
 fn rows_of_bits_take_no_memory_once_made(rt: HostRuntime) {
-    let mut made = None;
-    retried(&rt, || {
-        made = Some((Bits::new(rt.alloc(), 70)?, Bits::new(rt.alloc(), 70)?));
-        Ok(())
-    });
-    let (mut row, other) = made.expect(&rt, "two rows");
+    let (mut row, other) = rows_of(&rt, rt.alloc());
     assert!(rt; row.len() == 70 && other.len() == 70);
-    let is_begun = sign(rt.alloc());
-    let is_right = moves_words() & moves_bits(&mut row, &other);
-    let is_ended = sign(rt.alloc());
-    assert!(rt; is_begun & is_ended & is_right);
+    assert!(rt; moves_between(rt.alloc(), &mut row, &other));
 }

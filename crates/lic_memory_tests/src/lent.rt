@@ -1,11 +1,12 @@
 //! What is lent to the calls: templates, and a set and a text that were made with a list and rules.
 
-use crate::refused::Refused;
+use crate::refused::{Refused, retried};
 use lic_kind::Rules;
-use lic_markup::read_template;
+use lic_markup::{Template, read_template};
 use lic_norm::{Text, Words};
 use lic_set::Set;
 use std::alloc::{AllocError, Global};
+use std::process::Abort;
 
 /// Identifiers and texts of templates.
 pub type Templates<'a> = &'a [(&'a str, &'a str)];
@@ -44,41 +45,68 @@ pub const CHECKED: Templates<'static> = &[
     ("Z", r#"<<var;name="z";original="12";match="[a-z]+">> end"#),
 ];
 
-/// A set, by a list and rules that are lent.
-pub fn set_of(
+/// A list of equivalent words, and rules.
+#[derive(Drop)]
+pub struct Lists {
+    pub words: Words,
+    pub rules: Rules,
+}
+
+/// No words, and the rules of the profile.
+pub fn profile(alloc: Global) -> Lists {
+    Lists {
+        words: Words::none(alloc),
+        rules: Rules::profile(alloc),
+    }
+}
+
+/// A template under its identifier.
+fn template_of(
     alloc: Global,
-    templates: Templates<'_>,
-    words: &Words,
-    rules: &Rules,
-) -> Result<Set, Refused> {
+    id: &str,
+    text: &str,
+    lists: &Lists,
+) -> Result<(String, Template), Refused> {
+    let read = read_template(alloc, text, &lists.words, &lists.rules);
+    let template = read.map_err(Refused::Template)?;
+    Ok((id.to_string(alloc)?, template))
+}
+
+/// A set, by a list and rules that are lent.
+pub fn set_of(alloc: Global, templates: Templates<'_>, lists: &Lists) -> Result<Set, Refused> {
     let mut all = Vec::new(alloc);
     for (id, text) in templates {
-        let template = read_template(alloc, text, words, rules).map_err(Refused::Template)?;
-        let id = id.to_string(alloc)?;
-        all.push((id, template)).map_err(AllocError::from)?;
+        let template = template_of(alloc, id, text, lists)?;
+        all.push(template).map_err(AllocError::from)?;
     }
     Set::build(alloc, all).map_err(Refused::Set)
 }
 
 /// A text, by a list and rules that are lent.
-pub fn text_of(alloc: Global, input: &[u8], words: &Words, rules: &Rules) -> Result<Text, Refused> {
+pub fn text_of(alloc: Global, input: &[u8], lists: &Lists) -> Result<Text, Refused> {
     let bytes = input.to_vec(alloc)?;
-    Text::read(alloc, bytes, words, rules).map_err(Refused::Text)
+    Text::read(alloc, bytes, &lists.words, &lists.rules).map_err(Refused::Text)
 }
 
-/// A set and a text.
-///
-/// They are put where the caller says, since `retried` gives what can be dropped whatever it is, and a set is dropped as a set alone.
-pub fn lend(
+/// Puts a set where the caller says, since `retried` gives what can be dropped whatever it is, and a set is dropped as a set alone.
+fn lend_set(
     alloc: Global,
     templates: Templates<'_>,
-    input: &[u8],
-    words: &Words,
-    rules: &Rules,
-    lent: &mut Option<(Set, Text)>,
+    lists: &Lists,
+    lent: &mut Option<Set>,
 ) -> Result<(), Refused> {
-    let set = set_of(alloc, templates, words, rules)?;
-    let text = text_of(alloc, input, words, rules)?;
-    *lent = Some((set, text));
+    *lent = Some(set_of(alloc, templates, lists)?);
     Ok(())
+}
+
+/// A set; made again if memory runs out.
+pub fn set_lent(rt: &impl Abort, alloc: Global, templates: Templates<'_>, lists: &Lists) -> Set {
+    let mut lent = None;
+    retried(rt, || lend_set(alloc, templates, lists, &mut lent));
+    lent.expect(rt, "a set")
+}
+
+/// A text; made again if memory runs out.
+pub fn text_lent(rt: &impl Abort, alloc: Global, input: &[u8], lists: &Lists) -> Text {
+    retried(rt, || text_of(alloc, input, lists))
 }

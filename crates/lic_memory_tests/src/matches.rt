@@ -1,17 +1,17 @@
 //! Matches in worked texts, one by one and after one; filters of them, the values of one, and what the machines answer.
 
-use crate::lent::{CHOICE, OF, ONE, OPTIONAL, TWO, Templates, lend};
+use crate::lent::{CHOICE, Lists, OF, ONE, OPTIONAL, TWO, Templates, profile, set_lent, text_lent};
 use crate::refused::{Refused, retried};
 use lic_auto::{Back, Run};
 use lic_filters::{outer, tight};
 use lic_find::{Finder, is_match};
-use lic_kind::Rules;
-use lic_norm::{Span, Text, Words};
+use lic_norm::{Span, Text};
 use lic_report::AllMatches;
 use lic_search::tight_matches;
 use lic_set::{Set, Triple};
 use lic_vars::assign;
 use std::alloc::{AllocError, Global};
+use std::process::Abort;
 
 /// A range of tokens, the last one counted, and the number of a template.
 type Range = (usize, usize, usize);
@@ -191,40 +191,57 @@ fn read_back(alloc: Global, set: &Set, text: &Text) -> Result<bool, Refused> {
     Ok(machine.live())
 }
 
+/// Whether the finder and the search give the matches of a case.
+fn finds_all(alloc: Global, set: &Set, text: &Text, case: &Case) -> Result<bool, Refused> {
+    let are_found = finds(alloc, set, text, case.matches)?
+        && finds_of_first(alloc, set, text, case.matches)?;
+    Ok(
+        are_found
+            && gives(alloc, set, text, case.matches)?
+            && gives_tight(alloc, set, text, case.matches)?,
+    )
+}
+
+/// Whether the matches of a case are matches, and the other ranges are none.
+fn tells_matches(alloc: Global, set: &Set, text: &Text, case: &Case) -> Result<bool, Refused> {
+    Ok(
+        are_matches(alloc, set, text, case.matches, true)?
+            && are_matches(alloc, set, text, case.others, false)?,
+    )
+}
+
+/// Whether a machine answers rightly that reads the text, and one that reads it from its end.
+fn reads(alloc: Global, set: &Set, text: &Text, case: &Case) -> Result<bool, Refused> {
+    let begins = case.matches.first().is_some_and(|range| range.0 == 0);
+    Ok(read_on(alloc, set, text)? == case.whole && read_back(alloc, set, text)? == begins)
+}
+
 /// Makes all calls of a case: whether each answers rightly.
 fn answers(alloc: Global, set: &Set, text: &Text, case: &Case) -> Result<bool, Refused> {
-    let begins = case.matches.first().is_some_and(|range| range.0 == 0);
     Ok(
         keeps_all(alloc, set, text)?
-            && finds(alloc, set, text, case.matches)?
-            && finds_of_first(alloc, set, text, case.matches)?
-            && gives(alloc, set, text, case.matches)?
-            && gives_tight(alloc, set, text, case.matches)?
-            && are_matches(alloc, set, text, case.matches, true)?
-            && are_matches(alloc, set, text, case.others, false)?
-            && read_on(alloc, set, text)? == case.whole
-            && read_back(alloc, set, text)? == begins,
+            && finds_all(alloc, set, text, case)?
+            && tells_matches(alloc, set, text, case)?
+            && reads(alloc, set, text, case)?,
     )
+}
+
+/// Whether all calls of a case answer rightly; made again if memory runs out.
+fn are_answered(rt: &impl Abort, alloc: Global, set: &Set, text: &Text, case: &Case) -> bool {
+    retried(rt, || answers(alloc, set, text, case))
+}
+
+fn try_case(rt: &impl Abort, alloc: Global, case: &Case, lists: &Lists) {
+    let set = set_lent(rt, alloc, case.templates, lists);
+    let text = text_lent(rt, alloc, case.input, lists);
+    assert!(rt; are_answered(rt, alloc, &set, &text, case));
 }
 
 #[test]
 fn matches_are_found_when_there_is_memory(rt: HostRuntime) {
-    let words = Words::none(rt.alloc());
-    let rules = Rules::profile(rt.alloc());
+    let lists = profile(rt.alloc());
     for case in CASES {
-        let mut lent = None;
-        retried(&rt, || {
-            lend(
-                rt.alloc(),
-                case.templates,
-                case.input,
-                &words,
-                &rules,
-                &mut lent,
-            )
-        });
-        let (set, text) = lent.expect(&rt, "a set and a text");
-        assert!(rt; retried(&rt, || answers(rt.alloc(), &set, &text, case)));
+        try_case(&rt, rt.alloc(), case, &lists);
     }
 }
 
@@ -279,18 +296,39 @@ fn spans(
     }
 }
 
+/// The match after another, twice; made again if memory runs out.
+fn gone_on(
+    rt: &impl Abort,
+    alloc: Global,
+    set: &Set,
+    text: &Text,
+) -> (Option<Triple>, Option<Triple>) {
+    retried(rt, || go_on(alloc, set, text))
+}
+
+/// The values of a match; made again if memory runs out.
+fn spans_of(
+    rt: &impl Abort,
+    alloc: Global,
+    set: &Set,
+    text: &Text,
+    triple: Triple,
+) -> Option<(Span, Span)> {
+    retried(rt, || spans(alloc, set, text, triple))
+}
+
+/// Whether two matches go on with the whole, and it has its two values.
+fn has_values(rt: &impl Abort, alloc: Global, set: &Set, text: &Text) -> bool {
+    let whole = of(0, 4);
+    let goes_on = gone_on(rt, alloc, set, text) == (Some(whole), Some(whole));
+    let wanted = (Span { start: 0, end: 1 }, Span { start: 5, end: 11 });
+    goes_on & (spans_of(rt, alloc, set, text, whole) == Some(wanted))
+}
+
 #[test]
 fn matches_have_values_when_there_is_memory(rt: HostRuntime) {
-    let words = Words::none(rt.alloc());
-    let rules = Rules::profile(rt.alloc());
-    let mut lent = None;
-    retried(&rt, || {
-        lend(rt.alloc(), OF, b"x of y of z", &words, &rules, &mut lent)
-    });
-    let (set, text) = lent.expect(&rt, "a set and a text");
-    let whole = of(0, 4);
-    assert!(rt; retried(&rt, || go_on(rt.alloc(), &set, &text)) == (Some(whole), Some(whole)));
-    let found = retried(&rt, || spans(rt.alloc(), &set, &text, whole));
-    let wanted = (Span { start: 0, end: 1 }, Span { start: 5, end: 11 });
-    assert!(rt; found == Some(wanted));
+    let lists = profile(rt.alloc());
+    let set = set_lent(&rt, rt.alloc(), OF, &lists);
+    let text = text_lent(&rt, rt.alloc(), b"x of y of z", &lists);
+    assert!(rt; has_values(&rt, rt.alloc(), &set, &text));
 }

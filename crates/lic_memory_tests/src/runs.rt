@@ -1,14 +1,15 @@
 //! Runs of the engine, from a reader to a writer: the report of an input, the lines of its tokens, and the check of templates.
 
-use crate::lent::{CHECKED, OF, OPTIONAL, TWO, Templates, set_of, text_of};
+use crate::lent::{CHECKED, Lists, OF, OPTIONAL, TWO, Templates, profile, set_lent, text_of};
 use crate::refused::{Refused, retried};
-use lic_engine::{Memory, check, run, run_tokens};
+use lic_engine::{Memory, RunFault, check, run, run_tokens};
 use lic_find::Ask;
 use lic_kind::Rules;
 use lic_norm::Words;
 use lic_set::{Set, Triple};
 use lic_test_streams::{Awaited, Pieces};
 use std::alloc::Global;
+use std::process::Abort;
 
 /// All matches.
 const ALL: Ask = Ask {
@@ -106,67 +107,70 @@ const CASES: &[Case] = &[
 ];
 
 /// Whether `check` says just this of templates.
-fn says(
-    alloc: Global,
-    set: &Set,
-    words: &Words,
-    rules: &Rules,
-    said: &'static [u8],
-) -> Result<bool, Refused> {
+fn says(alloc: Global, set: &Set, lists: &Lists, said: &'static [u8]) -> Result<bool, Refused> {
     let mut out = Awaited::of(said);
-    let all = check(alloc, set, words, &mut out, rules).map_err(Refused::Run)?;
+    let all = check(alloc, set, &lists.words, &mut out, &lists.rules).map_err(Refused::Run)?;
     Ok(out.is_whole() && all == !said.ends_with(b"\tno\n"))
 }
 
-/// Whether the report of an input is all of the case's.
-fn reports(
+/// What the engine answers of an input.
+fn run_engine(
     alloc: Global,
     set: &Set,
-    words: &Words,
-    rules: &Rules,
-    case: &Case,
-) -> Result<bool, Refused> {
-    let mut input = Pieces::of(case.input);
-    let mut out = Awaited::of(case.report);
+    lists: &Lists,
+    input: &mut Pieces,
+    out: &mut Awaited,
+    ask: &Ask,
+) -> Result<bool, RunFault> {
     let mut memory = Memory::new(alloc);
-    let some = run(
+    run(
         &mut memory,
         "-",
-        &mut input,
-        &mut out,
+        input,
+        out,
         set,
-        words,
-        rules,
-        &case.ask,
+        &lists.words,
+        &lists.rules,
+        ask,
     )
-    .map_err(Refused::Run)?;
+}
+
+/// Whether the report of an input is all of the case's.
+fn reports(alloc: Global, set: &Set, lists: &Lists, case: &Case) -> Result<bool, Refused> {
+    let mut input = Pieces::of(case.input);
+    let mut out = Awaited::of(case.report);
+    let answer = run_engine(alloc, set, lists, &mut input, &mut out, &case.ask);
+    let some = answer.map_err(Refused::Run)?;
     Ok(out.is_whole() && some == !case.report.is_empty())
+}
+
+/// Whether `check` says just this of templates; made again if memory runs out.
+fn is_said(rt: &impl Abort, alloc: Global, set: &Set, lists: &Lists, said: &'static [u8]) -> bool {
+    retried(rt, || says(alloc, set, lists, said))
+}
+
+/// Whether the report of an input is all of the case's; made again if memory runs out.
+fn is_reported(rt: &impl Abort, alloc: Global, set: &Set, lists: &Lists, case: &Case) -> bool {
+    retried(rt, || reports(alloc, set, lists, case))
+}
+
+fn try_case(rt: &impl Abort, alloc: Global, case: &Case, lists: &Lists) {
+    let set = set_lent(rt, alloc, case.templates, lists);
+    assert!(rt; is_said(rt, alloc, &set, lists, case.said));
+    assert!(rt; is_reported(rt, alloc, &set, lists, case));
 }
 
 #[test]
 fn reports_are_written_when_there_is_memory(rt: HostRuntime) {
-    let words = Words::none(rt.alloc());
-    let rules = Rules::profile(rt.alloc());
+    let lists = profile(rt.alloc());
     for case in CASES {
-        let mut made = None;
-        retried(&rt, || {
-            made = Some(set_of(rt.alloc(), case.templates, &words, &rules)?);
-            Ok(())
-        });
-        let set = made.expect(&rt, "a set");
-        assert!(rt; retried(&rt, || says(rt.alloc(), &set, &words, &rules, case.said)));
-        assert!(rt; retried(&rt, || reports(rt.alloc(), &set, &words, &rules, case)));
+        try_case(&rt, rt.alloc(), case, &lists);
     }
 }
 
 /// How many tokens an input has.
-fn count_tokens(
-    alloc: Global,
-    input: &[u8],
-    words: &Words,
-    rules: &Rules,
-) -> Result<usize, Refused> {
-    Ok(text_of(alloc, input, words, rules)?.len())
+fn count_tokens(alloc: Global, input: &[u8], lists: &Lists) -> Result<usize, Refused> {
+    Ok(text_of(alloc, input, lists)?.len())
 }
 
 /// A list, an input, how many tokens it has, and their lines.
@@ -199,25 +203,38 @@ const LISTED: &[Listed] = &[
     },
 ];
 
-/// Whether an input has as many tokens as the case says, and the lines that are written of them are just the case's.
-fn lists(alloc: Global, words: &Words, rules: &Rules, case: &Listed) -> Result<bool, Refused> {
-    let count = count_tokens(alloc, case.input, words, rules)?;
+/// Whether the lines that are written of an input's tokens are just the case's.
+fn writes_lines(alloc: Global, lists: &Lists, case: &Listed) -> Result<bool, Refused> {
     let mut input = Pieces::of(case.input);
     let mut out = Awaited::of(case.lines);
     let mut memory = Memory::new(alloc);
-    let some = run_tokens(&mut memory, "-", &mut input, &mut out, words, rules).map_err(
-        Refused::Run,
-    )?;
-    Ok(count == case.count && out.is_whole() && some == !case.lines.is_empty())
+    let (words, rules) = (&lists.words, &lists.rules);
+    let answer = run_tokens(&mut memory, "-", &mut input, &mut out, words, rules);
+    let some = answer.map_err(Refused::Run)?;
+    Ok(out.is_whole() && some == !case.lines.is_empty())
+}
+
+/// Whether an input has as many tokens as the case says, and the lines that are written of them are just the case's.
+fn writes_tokens(alloc: Global, lists: &Lists, case: &Listed) -> Result<bool, Refused> {
+    Ok(count_tokens(alloc, case.input, lists)? == case.count && writes_lines(alloc, lists, case)?)
+}
+
+/// The list of a case, and the rules of the profile; made again if memory runs out.
+fn lists_of(rt: &impl Abort, alloc: Global, case: &Listed) -> Lists {
+    let words = retried(rt, || Words::read(alloc, case.list).map_err(Refused::Words));
+    let rules = Rules::profile(alloc);
+    Lists { words, rules }
+}
+
+/// Whether the tokens of a case are written; made again if memory runs out.
+fn are_written(rt: &impl Abort, alloc: Global, lists: &Lists, case: &Listed) -> bool {
+    retried(rt, || writes_tokens(alloc, lists, case))
 }
 
 #[test]
 fn tokens_are_written_when_there_is_memory(rt: HostRuntime) {
-    let rules = Rules::profile(rt.alloc());
     for case in LISTED {
-        let words = retried(&rt, || {
-            Words::read(rt.alloc(), case.list).map_err(Refused::Words)
-        });
-        assert!(rt; retried(&rt, || lists(rt.alloc(), &words, &rules, case)));
+        let lists = lists_of(&rt, rt.alloc(), case);
+        assert!(rt; are_written(&rt, rt.alloc(), &lists, case));
     }
 }

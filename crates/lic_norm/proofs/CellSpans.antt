@@ -7,7 +7,7 @@ use Rattle.std.proofs.lemmas.Bool.{cases_Bool, cond-true, cond-false}
 use Rattle.std.proofs.lemmas.Str.{length-encode, len_utf8_bounds}
 use Rattle.std.proofs.lemmas.List.Elements.{Contains-append_left, Contains-append_right}
 use Rattle.lic_kind.specs.Kinds.{kind_of, is_word_kind, is_mark_kind}
-use Rattle.lic_trim.specs.Texts.{cut_after, groups, join_group}
+use Rattle.lic_trim.specs.Texts.{cut_after, groups}
 use Rattle.lic_trim.specs.Sources.{chars_of, without_dropped, lines_of}
 use Rattle.lic_trim.specs.declared.source.SourceChar.{SourceChar}
 use Rattle.lic_lines.specs.declared.cell.Cell.{Cell}
@@ -19,6 +19,7 @@ use Rattle.lic_lines.specs.Cells.{blank_for, cell_of, line_cells, cells_of}
 use Rattle.lic_lines.specs.Streaks.{same_mark, same_family, end_after, without_separator, without_separators, joined, streaks_joined}
 use Rattle.lic_norm.specs.Sources.{AreSourceChars, source_of}
 use Rattle.lic_norm.specs.Spans.{EndsAt}
+use Rattle.lic_tokens.proofs.GroupLemmas.{parts_of_groups}
 use Rattle.lic_norm.proofs.AnyBytes.{source_of-AreSourceChars}
 use Rattle.lic_norm.proofs.Lying.{Lie, Lie-order, Lie-append, Lie-split, Lie-rest, Lie-take, Lie-drop, Lie-filter}
 
@@ -60,19 +61,6 @@ parts_of_cut {A} ends (x ∷ xs) =
     onto : (parts : List (List A)) → flat_map (λ part. part) (onto_first x parts) ≡ x ∷ flat_map (λ part. part) parts
     onto [] = refl
     onto (part ∷ parts) = refl
-
-pub parts_of_groups : {A : Type 0} (together : A → A → Bool) (xs : List A) → flat_map (λ part. part) (groups together xs) ≡ xs
-parts_of_groups together [] = refl
-parts_of_groups {A} together (x ∷ xs) = join (groups together xs) ∙ ap (λ l. x ∷ l) (parts_of_groups together xs)
-  where
-    join : (gs : List (List A)) → flat_map (λ part. part) (join_group together x gs) ≡ x ∷ flat_map (λ part. part) gs
-    join [] = refl
-    join ([] ∷ gs) = refl
-    join ((y ∷ g) ∷ gs) =
-        elim (cases_Bool (together x y)) [
-          | inl both ↦ ap (flat_map (λ part. part)) (cond-true (together x y) ((x ∷ y ∷ g) ∷ gs) ((x ∷ []) ∷ (y ∷ g) ∷ gs) both)
-          | inr apart ↦ ap (flat_map (λ part. part)) (cond-false (together x y) ((x ∷ y ∷ g) ∷ gs) ((x ∷ []) ∷ (y ∷ g) ∷ gs) apart)
-        ]
 
 -- ---- characters
 

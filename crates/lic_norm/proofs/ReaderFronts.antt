@@ -4,7 +4,8 @@ use Rattle.std.specs.List.{slice_range}
 use Rattle.lic_kind.specs.LineRules.{rules_of}
 use Rattle.lic_lines.specs.Tokens.{Token}
 use Rattle.lic_norm.specs.Feeding.{AreLines}
-use Rattle.lic_norm.specs.Reading.{HasRead, HasTaken}
+use Rattle.lic_norm.specs.Reading.{HasRead}
+use Rattle.lic_tokens.specs.Taking.{HasTaken}
 use Rattle.lic_norm.specs.Tokens.{first_tokens_of}
 use Rattle.lic_norm.specs.declared.reader.Reader.{Reader}
 use Rattle.lic_norm.proofs.ReaderLemmas.{more_lines, read_on}

@@ -1,7 +1,7 @@
 -- Lines that a reader takes as they end.
 use Rattle.std.proofs.Common.{◌≡◌, ◌≢◌, ℕ, ◌+◌, ◌-◌, ◌≤◌, List, [], ◌∷◌, ◌++◌, map, length, take, drop, sym, ap, ap₂, subst, ◌∙◌, append_assoc, append-nil, arith, All, get_or, get_or-drop, ◌<◌, ◌⊎◌, inl, inr, Option, Some, None, length-drop, take-append-drop, take-add, take_all, drop-drop}
 use Rattle.std.specs.List.{slice_range}
-use Rattle.std.proofs.lemmas.List.{map-append, take-append-le, drop-append-le, drop_all, length-map}
+use Rattle.std.proofs.lemmas.List.{map-append, drop_all, length-map}
 use Rattle.std.proofs.lemmas.List.Elements.{All-append, All-drop, All-get_or, All-nil}
 use Rattle.memchr.specs.Find.{IsLastByte, is_byte}
 use Rattle.lic_kind.specs.LineRules.{LineRules, rules_of}
@@ -9,11 +9,13 @@ use Rattle.lic_phrases.specs.Rewriting.{rewritten}
 use Rattle.lic_phrases.specs.Settling.{left_of}
 use Rattle.lic_norm.specs.Feeding.{FeederValue, settled_in, AreLines, AreFirst, lines_read}
 use Rattle.lic_norm.specs.LineEnds.{IsFirstLine}
-use Rattle.lic_norm.specs.Reading.{HasTaken, HasRead, HasReadLines}
-use Rattle.lic_norm.specs.Tokens.{reported, first_tokens_of, tokens_of}
+use Rattle.lic_tokens.specs.Taking.{HasTaken}
+use Rattle.lic_norm.specs.Reading.{HasRead, HasReadLines}
+use Rattle.lic_tokens.specs.Tokens.{reported}
+use Rattle.lic_norm.specs.Tokens.{first_tokens_of, tokens_of}
 use Rattle.lic_norm.specs.declared.fault.TextFault.{TextFault}
 use Rattle.lic_norm.specs.declared.reader.Reader.{Reader}
-use Rattle.lic_norm.specs.declared.rewriting.Rewriting.{Rewriting}
+use Rattle.lic_tokens.specs.declared.rewriting.Rewriting.{Rewriting}
 use Rattle.lic_norm.proofs.LineCuts.{found_last, found_none}
 use Rattle.lic_norm.proofs.WholeLines.{first_tokens_of-lines, lines_read-is}
 

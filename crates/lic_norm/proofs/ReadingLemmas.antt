@@ -1,20 +1,12 @@
 -- Lines that a reader takes, and their tokens.
-use Rattle.std.proofs.Common.{◌≡◌, ℕ, zero, suc, ◌<◌, List, [], ◌∷◌, ◌++◌, map, length, get_or, sym, ap, subst, ◌∙◌, append-nil, arith}
-use Rattle.std.proofs.lemmas.List.{map-append}
-use Rattle.std.proofs.lemmas.List.Elements.{All-head, All-tail}
+use Rattle.std.proofs.Common.{◌≡◌, ℕ, List, ap, ◌∙◌}
 use Rattle.lic_kind.specs.LineRules.{LineRules}
 use Rattle.lic_trim.specs.Lines.{whole_line}
 use Rattle.lic_trim.specs.Sources.{without_dropped}
-use Rattle.lic_lines.specs.Tokens.{Token, line_tokens, small_bytes, token_in, tokens_in}
+use Rattle.lic_lines.specs.Tokens.{Token, line_tokens}
 use Rattle.lic_trim.specs.declared.source.SourceChar.{SourceChar}
-use Rattle.lic_lines.specs.declared.tokens.FirstToken.{FirstToken}
-use Rattle.lic_phrases.specs.Rewriting.{SpannedText}
-use Rattle.lic_phrases.specs.TokenTexts.{IsTokenText}
-use Rattle.lic_phrases.specs.Waiting.{spanned_in, text_in}
-use Rattle.lic_phrases.specs.declared.final_token.FinalToken.{FinalToken}
 use Rattle.lic_norm.specs.Sources.{source_of}
-use Rattle.lic_norm.specs.Spans.{AreTokenTexts, HaveTexts}
-use Rattle.lic_norm.specs.Tokens.{TokenValue, reported, line_tokens_of}
+use Rattle.lic_norm.specs.Tokens.{line_tokens_of}
 
 -- the tokens of a line, by its characters
 pub line_tokens_of-is : (rules : LineRules) (at : ℕ) (line : List ℕ) (characters : List SourceChar)
@@ -22,34 +14,3 @@ pub line_tokens_of-is : (rules : LineRules) (at : ℕ) (line : List ℕ) (charac
     → characters ≡ without_dropped (source_of at line) → tokens ≡ line_tokens_of rules at line
 unfolding line_tokens_of
 line_tokens_of-is rules at line characters tokens are kept = are ∙ ap (line_tokens rules whole_line) kept
-
--- more tokens are settled
-pub listed-more : (before given : List SpannedText) (tokens tokens' : List TokenValue) → tokens ≡ map reported before
-    → tokens' ≡ tokens ++ map reported given → tokens' ≡ map reported (before ++ given)
-listed-more before given tokens tokens' listed more = more ∙ ap (λ l. l ++ map reported given) listed ∙ sym (map-append reported before given)
-
--- after what is settled nothing waits to be listed
-pub nothing_waits : (spellings : List (List ℕ)) (settled : List SpannedText) (output : List FinalToken) → output ≡ []
-    → settled ++ map (spanned_in spellings) output ≡ settled
-nothing_waits spellings settled output none = ap (λ l. settled ++ map (spanned_in spellings) l) none ∙ append-nil settled
-
--- the text of one of the tokens that the rewriting gives
-pub given_text : (spellings : List (List ℕ)) (given : List FinalToken) (i : ℕ) (token : FinalToken) → token ≡ get_or given i token
-    → i < length given → AreTokenTexts (map reported (map (spanned_in spellings) given)) → IsTokenText (text_in spellings token.text)
-given_text spellings [] i token is inside texts = absurd (omega arith)
-given_text spellings (t ∷ given) zero token is inside texts =
-    subst (λ (u : FinalToken). IsTokenText (text_in spellings u.text)) (sym is)
-    (All-head (λ u. IsTokenText u.text) (reported (spanned_in spellings t)) (map reported (map (spanned_in spellings) given)) texts)
-given_text spellings (t ∷ given) (suc i) token is inside texts =
-    given_text spellings given i token is (omega arith)
-    (All-tail (λ u. IsTokenText u.text) (reported (spanned_in spellings t)) (map reported (map (spanned_in spellings) given)) texts)
-
--- the text of one of the first tokens
-pub one_text : (tokens : List FirstToken) (i : ℕ) (token : FirstToken) → token ≡ get_or tokens i token → i < length tokens
-    → HaveTexts (tokens_in tokens) → IsTokenText (small_bytes token.text)
-one_text [] i token is inside texts = absurd (omega arith)
-one_text (t ∷ tokens) zero token is inside texts =
-    subst (λ (u : FirstToken). IsTokenText (small_bytes u.text)) (sym is)
-    (All-head (λ u. IsTokenText u.text) (token_in t) (tokens_in tokens) texts)
-one_text (t ∷ tokens) (suc i) token is inside texts =
-    one_text tokens i token is (omega arith) (All-tail (λ u. IsTokenText u.text) (token_in t) (tokens_in tokens) texts)

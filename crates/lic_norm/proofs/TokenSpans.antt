@@ -13,11 +13,13 @@ use Rattle.lic_trim.specs.declared.source.SourceChar.{SourceChar}
 use Rattle.lic_lines.specs.declared.cell.Cell.{Cell}
 use Rattle.lic_lines.specs.declared.cell.Cell.TheVariants.{Blank, Mark, Word}
 use Rattle.lic_phrases.specs.Rewriting.{Phrase, end_of_last, both_signs, sign_of_sequence, sign_sequences, begins_authority, https_as_http, longest_phrase, count_after, first_as, phrases_after, phrases_joined, spanned}
-use Rattle.lic_norm.specs.Tokens.{TokenValue, reported, first_tokens_of, tokens_of}
+use Rattle.lic_tokens.specs.Tokens.{TokenValue, reported}
+use Rattle.lic_norm.specs.Tokens.{first_tokens_of, tokens_of}
 use Rattle.lic_norm.specs.Sources.{source_of}
 use Rattle.lic_norm.specs.Spans.{AreRising, EndsAt, IsOnBoundaries, AreSpans}
 use Rattle.lic_norm.proofs.Lying.{Lie, Lie-order, Lie-wider, Lie-split, Lie-take}
-use Rattle.lic_norm.proofs.CellSpans.{CharsLie, CellsLie, solid, solid-append, parts_of_groups, source-Lie, cells_of-Lie, streaks_joined-Lie, end_after-lies}
+use Rattle.lic_norm.proofs.CellSpans.{CharsLie, CellsLie, solid, solid-append, source-Lie, cells_of-Lie, streaks_joined-Lie, end_after-lies}
+use Rattle.lic_tokens.proofs.GroupLemmas.{parts_of_groups}
 
 -- tokens lie from one byte up to another
 abbrev pub TokensLie : List ℕ → ℕ → List Token → ℕ → Type 0

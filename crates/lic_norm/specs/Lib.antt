@@ -6,6 +6,5 @@ pub mod Refusal
 pub mod Views
 pub mod Feeding
 pub mod Reading
-pub mod Places
-pub mod Stretches
-pub mod Batches
+pub use Rattle.lic_tokens.specs.Places
+pub use Rattle.lic_tokens.specs.Taking

@@ -1,10 +1,10 @@
--- Where tokens lie in their source, and what their texts are.
+-- Where tokens lie in their source.
 use Rattle.std.specs.Prelude.{◌≡◌, ℕ, ◌≤◌, ◌<◌, List, [], ◌∷◌, length, All, Contains}
 use Rattle.lic_trim.specs.declared.source.SourceChar.{SourceChar}
-use Rattle.lic_lines.specs.Tokens.{Token}
 pub use Rattle.lic_phrases.specs.TokenTexts.{IsTokenText}
 use Rattle.lic_norm.specs.Sources.{source_of}
-use Rattle.lic_norm.specs.Tokens.{TokenValue}
+use Rattle.lic_tokens.specs.Tokens.{TokenValue}
+pub use Rattle.lic_tokens.specs.Tokens.{AreTokenTexts, HaveTexts}
 
 -- each span is not empty, and begins no earlier than the one before ends
 abbrev pub AreRising : ℕ → List TokenValue → Type 0
@@ -28,11 +28,3 @@ pub record AreSpans (source : List ℕ) (tokens : List TokenValue) : Type 0 wher
   pub rising : AreRising 0 tokens
   pub within : All (λ t. t.span.end ≤ length source) tokens
   pub boundaries : All (IsOnBoundaries source) tokens
-
--- the texts of tokens
-abbrev pub AreTokenTexts : List TokenValue → Type 0
-AreTokenTexts tokens = All (λ t. IsTokenText t.text) tokens
-
--- and of tokens before the rewriting
-abbrev pub HaveTexts : List Token → Type 0
-HaveTexts tokens = All (λ t. IsTokenText t.text) tokens

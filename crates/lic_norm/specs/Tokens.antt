@@ -4,18 +4,9 @@ use Rattle.lic_trim.specs.Sources.{without_dropped}
 use Rattle.lic_kind.specs.LineRules.{LineRules}
 use Rattle.lic_trim.specs.Lines.{whole_line}
 use Rattle.lic_lines.specs.Tokens.{Token, line_tokens, text_tokens}
-use Rattle.lic_phrases.specs.Rewriting.{Phrase, SpannedText, rewritten}
+use Rattle.lic_phrases.specs.Rewriting.{Phrase, rewritten}
+pub use Rattle.lic_tokens.specs.Tokens.{TokenValue, reported}
 use Rattle.lic_norm.specs.Sources.{source_of}
-use Rattle.lic_norm.specs.declared.token.Span.{Span}
-
--- a token: its text in UTF-8, and the bytes of the input that it was made from
-pub record TokenValue : Type 0 where
-  pub text : List ℕ
-  pub span : Span
-
--- a token of the rewriting as callers see it
-abbrev pub reported : SpannedText → TokenValue
-reported t = record { text = t.text; span = record { start = t.start; end = t.end } }
 
 -- the tokens of bytes that begin at this byte of the input, by these line rules, before the rewriting
 unfoldable pub first_tokens_of : LineRules → ℕ → List ℕ → List Token

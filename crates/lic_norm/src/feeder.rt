@@ -4,18 +4,18 @@ ghost use Rattle.std.specs.Prelude.{◌≡◌, ◌≢◌, ◌<◌, ◌≤◌, �
 ghost use Rattle.std.specs.List.{flat_map};
 ghost use Rattle.lic_kind.specs.LineRules.{rules_of};
 ghost use Rattle.lic_norm.specs.Refusal.{refusal_of};
-ghost use Rattle.lic_norm.specs.Spans.{AreSpans, AreTokenTexts};
+ghost use Rattle.lic_norm.specs.Spans.{AreSpans};
+ghost use Rattle.lic_tokens.specs.Tokens.{AreTokenTexts};
 ghost use Rattle.lic_norm.specs.Tokens.{tokens_of};
 
 use crate::fault::TextFault;
 use crate::reader::line_tokens::LineBuffers;
 use crate::reader::{MAX_KEPT, Reader};
 use crate::refusal::MAX_BYTES;
-use crate::rewriting::token_list::TokenList;
 use crate::text::Text;
-use crate::token::Token;
 use crate::words::Words;
 use lic_lines::Rules;
+use lic_tokens::{Token, TokenList};
 use std::alloc::Global;
 use std::marker::Model;
 
@@ -31,6 +31,7 @@ impl<'w> Model for Feeder<'w> {
     ghost use Rattle.std.specs.Prelude.{ℕ, ◌≡◌, ◌≤◌, List, length, None};
     ghost use Rattle.lic_kind.specs.LineRules.{rules_of};
     ghost use Rattle.lic_norm.specs.Feeding.{FeederValue, settled_in};
+    ghost use Rattle.lic_tokens.specs.Taking.{listed_by, phrases_of};
     ghost use Rattle.lic_norm.specs.Reading.{HasReadLines};
     ghost use Rattle.lic_norm.specs.Refusal.{max_bytes};
 
@@ -40,11 +41,11 @@ impl<'w> Model for Feeder<'w> {
       bytes = f.reader.source.items;
       words = f.words.now;
       rules = rules_of f.reader.rules.now;
-      tokens = settled_in f.refused f.reader.rewriting.tokens;
+      tokens = settled_in f.refused (listed_by f.reader.rewriting);
       refused = f.refused;
     } };
 
-    ghost invariant = { λ f. (f.reader.rewriting.phrases.now.phrases ≡ f.words.now)
+    ghost invariant = { λ f. ((phrases_of f.reader.rewriting).phrases ≡ f.words.now)
         × (f.refused ≡ None → HasReadLines f.reader × (length f.reader.source.items ≤ max_bytes)) };
 }
 
@@ -52,7 +53,8 @@ impl<'w> Feeder<'w> {
     ghost use Rattle.lic_kind.specs.LineRules.{rules_of};
     ghost use Rattle.lic_norm.specs.Feeding.{AreFirst, lines_read};
     ghost use Rattle.lic_norm.specs.Refusal.{refusal_of};
-    ghost use Rattle.lic_norm.specs.Spans.{AreSpans, AreTokenTexts};
+    ghost use Rattle.lic_norm.specs.Spans.{AreSpans};
+    ghost use Rattle.lic_tokens.specs.Tokens.{AreTokenTexts};
     ghost use Rattle.lic_norm.specs.Tokens.{tokens_of};
 
     /// Nothing is fed yet.

@@ -2,7 +2,8 @@
 ghost use Rattle.std.specs.Prelude.{◌≡◌, ◌≢◌, ◌++◌, ◌<◌, ◌≤◌, ◌^◌, [], false, All, IfOk, IfErr, IsTrue, OnOk, Some, length, take, drop, slice_range};
 ghost use Rattle.lic_kind.specs.LineRules.{rules_of};
 ghost use Rattle.lic_norm.specs.LineEnds.{IsFirstLine};
-ghost use Rattle.lic_norm.specs.Reading.{HasTaken, HasRead, HasReadLines};
+ghost use Rattle.lic_tokens.specs.Taking.{HasTaken, listed_by, phrases_of};
+ghost use Rattle.lic_norm.specs.Reading.{HasRead, HasReadLines};
 ghost use Rattle.lic_norm.specs.Refusal.{max_bytes, refusal_of};
 ghost use Rattle.lic_norm.specs.Tokens.{first_tokens_of, tokens_of};
 
@@ -14,11 +15,10 @@ use crate::fault::TextFault;
 use crate::reader::line_tokens::{LineBuffers, ascii_text, take_any_line, take_ascii, take_front};
 use crate::reader::lines::{MAX_TOGETHER, line_end, lines_end};
 use crate::refusal::MAX_BYTES;
-use crate::rewriting::Rewriting;
-use crate::rewriting::token_list::TokenList;
 use crate::words::Words;
 use lic_lines::Rules;
 use lic_phrases::laws::spellings_are_token_texts;
+use lic_tokens::{Rewriting, TokenList};
 use memchr::memrchr;
 use std::alloc::{AllocError, Global};
 
@@ -55,8 +55,8 @@ impl<'w> Reader<'w> {
         ensures read { HasRead result }
         ensures source { result.source.items ≡ source.items }
         ensures start { result.line_start ≡ 0 }
-        ensures tokens { result.rewriting.tokens ≡ [] }
-        ensures words { result.rewriting.phrases.now.phrases ≡ words.now }
+        ensures tokens { listed_by result.rewriting ≡ [] }
+        ensures words { (phrases_of result.rewriting).phrases ≡ words.now }
         ensures rules { result.rules.now ≡ rules.now }
     {
         spellings_are_token_texts(words);
@@ -80,7 +80,7 @@ impl<'w> Reader<'w> {
         ensures start { IfOk result (λ all. IsTrue all → self.new.line_start ≡ end) }
         ensures other { IfOk result (λ all. all ≡ false → self.new ≡ self.old) }
         ensures source { self.new.source.items ≡ self.old.source.items }
-        ensures words { self.new.rewriting.phrases.now ≡ self.old.rewriting.phrases.now }
+        ensures words { phrases_of self.new.rewriting ≡ phrases_of self.old.rewriting }
         ensures rules { self.new.rules.now ≡ self.old.rules.now }
     {
         if end > MAX_BYTES {
@@ -112,7 +112,7 @@ impl<'w> Reader<'w> {
         ensures some { IfOk result (λ some. IsTrue some → self.old.line_start < self.new.line_start) }
         ensures start { IfOk result (λ some. some ≡ false → self.new.line_start ≡ self.old.line_start) }
         ensures source { self.new.source.items ≡ self.old.source.items }
-        ensures words { self.new.rewriting.phrases.now ≡ self.old.rewriting.phrases.now }
+        ensures words { phrases_of self.new.rewriting ≡ phrases_of self.old.rewriting }
         ensures rules { self.new.rules.now ≡ self.old.rules.now }
     {
         let start = self.line_start;
@@ -146,7 +146,7 @@ impl<'w> Reader<'w> {
             (take end self.old.source.items))) }
         ensures start { OnOk result (self.new.line_start ≡ end) }
         ensures source { self.new.source.items ≡ self.old.source.items }
-        ensures words { self.new.rewriting.phrases.now ≡ self.old.rewriting.phrases.now }
+        ensures words { phrases_of self.new.rewriting ≡ phrases_of self.old.rewriting }
         ensures rules { self.new.rules.now ≡ self.old.rules.now }
     {
         let line = &self.source[self.line_start..end];
@@ -176,7 +176,7 @@ impl<'w> Reader<'w> {
             (take end self.old.source.items))) }
         ensures start { OnOk result (self.new.line_start ≡ end) }
         ensures source { self.new.source.items ≡ self.old.source.items }
-        ensures words { self.new.rewriting.phrases.now ≡ self.old.rewriting.phrases.now }
+        ensures words { phrases_of self.new.rewriting ≡ phrases_of self.old.rewriting }
         ensures rules { self.new.rules.now ≡ self.old.rules.now }
     {
         if !self.take_ascii(end)? {
@@ -193,7 +193,7 @@ impl<'w> Reader<'w> {
         ensures read { OnOk result (HasRead self.new) }
         ensures some { OnOk result (self.old.line_start < self.new.line_start) }
         ensures source { self.new.source.items ≡ self.old.source.items }
-        ensures words { self.new.rewriting.phrases.now ≡ self.old.rewriting.phrases.now }
+        ensures words { phrases_of self.new.rewriting ≡ phrases_of self.old.rewriting }
         ensures rules { self.new.rules.now ≡ self.old.rules.now }
     {
         let start = self.line_start;
@@ -220,7 +220,7 @@ impl<'w> Reader<'w> {
             (slice_range self.old.source.items self.old.line_start from) }
         ensures read { OnOk result (HasReadLines self.new) }
         ensures source { self.new.source.items ≡ self.old.source.items }
-        ensures words { self.new.rewriting.phrases.now ≡ self.old.rewriting.phrases.now }
+        ensures words { phrases_of self.new.rewriting ≡ phrases_of self.old.rewriting }
         ensures rules { self.new.rules.now ≡ self.old.rules.now }
     {
         let Some(place) = memrchr(b'\n', &self.source[from..]) else {
@@ -244,7 +244,7 @@ impl<'w> Reader<'w> {
             → refusal_of (self.old.source.items ++ bytes.now) ≡ Some fault) }
         ensures long { max_bytes < length (self.old.source.items ++ bytes.now)
             → result ≡ Err TextFault.TooLong }
-        ensures words { self.new.rewriting.phrases.now ≡ self.old.rewriting.phrases.now }
+        ensures words { phrases_of self.new.rewriting ≡ phrases_of self.old.rewriting }
         ensures rules { self.new.rules.now ≡ self.old.rules.now }
     {
         let searched = self.source.len();
@@ -259,7 +259,7 @@ impl<'w> Reader<'w> {
 
     /// The tokens that are settled.
     pub(crate) fn settled(&self) -> &TokenList
-        ensures { result.now ≡ self.now.rewriting.tokens }
+        ensures { result.now ≡ listed_by self.now.rewriting }
     {
         self.rewriting.settled()
     }
@@ -270,7 +270,7 @@ impl<'w> Reader<'w> {
         requires fits { length self.source.items < 2 ^ 32 }
         ensures source { IfOk result (λ text. text.0.items ≡ self.entry.source.items) }
         ensures tokens { IfOk result (λ text. text.1
-            ≡ tokens_of (rules_of self.entry.rules.now) self.entry.rewriting.phrases.now.phrases self.entry.source.items) }
+            ≡ tokens_of (rules_of self.entry.rules.now) (phrases_of self.entry.rewriting).phrases self.entry.source.items) }
     {
         let mut reader = self;
         let end = reader.source.len();

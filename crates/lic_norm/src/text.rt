@@ -1,17 +1,17 @@
 //! A source and its tokens.
 
 ghost use Rattle.std.specs.Prelude.{◌≡◌, ◌<◌, ◌≤◌, ◌≢◌, ◌^◌, [], All, IsUtf8, length, slice_range, slice_index_or, IfOk, IfErr, OnOk, Some, None};
-ghost use Rattle.lic_norm.specs.Spans.{AreSpans, AreTokenTexts};
+ghost use Rattle.lic_norm.specs.Spans.{AreSpans};
+ghost use Rattle.lic_tokens.specs.Tokens.{AreTokenTexts};
 
 use crate::fault::TextFault;
 use crate::reader::Reader;
 use crate::reader::line_tokens::LineBuffers;
 use crate::refusal::check_length;
-use crate::rewriting::token_list::TokenList;
-use crate::token::{Span, Token};
 use crate::words::Words;
 use lic_lines::Rules;
 use lic_phrases::laws::spellings_are_token_texts;
+use lic_tokens::{Span, Token, TokenList};
 use std::alloc::{AllocError, Global};
 use std::marker::Model;
 
@@ -26,7 +26,8 @@ pub struct Text {
 
 impl Model for Text {
     ghost use Rattle.lic_norm.specs.Views.{TextValue};
-    ghost use Rattle.lic_norm.specs.Spans.{AreSpans, AreTokenTexts};
+    ghost use Rattle.lic_norm.specs.Spans.{AreSpans};
+    ghost use Rattle.lic_tokens.specs.Tokens.{AreTokenTexts};
 
     ghost Value = { TextValue };
 
@@ -37,11 +38,13 @@ impl Model for Text {
 
 impl Text {
     ghost use Rattle.lic_kind.specs.LineRules.{rules_of};
-    ghost use Rattle.lic_norm.specs.Places.{place_end, place_start, texts_of};
+    ghost use Rattle.lic_tokens.specs.Taking.{listed_by, phrases_of};
+    ghost use Rattle.lic_tokens.specs.Places.{place_end, place_start, texts_of};
     ghost use Rattle.lic_norm.specs.Reading.{HasRead, HasReadLines};
     ghost use Rattle.lic_norm.specs.Refusal.{refusal_of};
     ghost use Rattle.lic_norm.specs.Tokens.{tokens_of};
-    ghost use Rattle.lic_norm.specs.Spans.{AreSpans, AreTokenTexts, IsTokenText};
+    ghost use Rattle.lic_norm.specs.Spans.{AreSpans, IsTokenText};
+    ghost use Rattle.lic_tokens.specs.Tokens.{AreTokenTexts};
     ghost use Rattle.lic_phrases.specs.Spelling.{spelled};
 
     /// Reads a source of at most 67,108,864 bytes, whatever they are.
@@ -81,7 +84,7 @@ impl Text {
     pub(crate) fn of(reader: Reader<'_>, words: &Words) -> Result<Text, AllocError>
         requires read { HasReadLines reader }
         requires fits { length reader.source.items < 2 ^ 32 }
-        requires words { reader.rewriting.phrases.now.phrases ≡ words.now }
+        requires words { (phrases_of reader.rewriting).phrases ≡ words.now }
         ensures source { IfOk result (λ t. t.source ≡ reader.entry.source.items) }
         ensures tokens { IfOk result (λ t. t.tokens
             ≡ tokens_of (rules_of reader.entry.rules.now) words.now reader.entry.source.items) }
@@ -107,8 +110,8 @@ impl Text {
         ensures read { HasRead result }
         ensures source { result.source.items ≡ [] }
         ensures start { result.line_start ≡ 0 }
-        ensures tokens { result.rewriting.tokens ≡ [] }
-        ensures words { result.rewriting.phrases.now.phrases ≡ words.now }
+        ensures tokens { listed_by result.rewriting ≡ [] }
+        ensures words { (phrases_of result.rewriting).phrases ≡ words.now }
         ensures rules { result.rules.now ≡ rules.now }
     {
         let Text {

@@ -10,7 +10,7 @@ ghost use Rattle.lic_lines.specs.Streaks.{streaks_joined};
 ghost use Rattle.lic_lines.specs.Tokens.{Token, line_tokens};
 ghost use Rattle.lic_pieces.specs.Edges.{BeginAs, HasEdges};
 ghost use Rattle.lic_pieces.specs.Pieces.{bare_token, begins_in_blank, ends_in_feed, part_of, piece_cells, piece_tokens};
-ghost use Rattle.lic_norm.specs.Reading.{HasTaken, HasTakenSome, phrases_of};
+ghost use Rattle.lic_norm.specs.Taking.{HasTaken, HasTakenSome, phrases_of};
 ghost use Rattle.lic_norm.specs.Tokens.{first_tokens_of};
 
 use crate::cell_edges::Edges;

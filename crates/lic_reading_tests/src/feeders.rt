@@ -1,21 +1,19 @@
 //! Inputs that come in pieces.
-ghost use Rattle.std.specs.Prelude.{◌<◌};
 
-use crate::shown::show_tokens;
+use crate::drawn::drawn_text;
+use crate::lists::{Lists, two_words};
+use crate::shown::{assert_same, shown, shown_whole};
 use lic_kind::Rules;
-use lic_norm::{Feeder, MAX_BYTES, Text, TextFault, Words, read_pieces};
+use lic_norm::{Feeder, MAX_BYTES, Words, read_pieces};
 use std::alloc::{AllocError, Global};
+use std::process::Abort;
 use std::test::Fail;
 
 /// Feeds pieces of `size` bytes, whatever is answered: how many are refused.
-fn feed(feeder: &mut Feeder<'_>, input: &[u8], size: usize) -> usize
-    requires { 0 < size }
-{
+fn feed(feeder: &mut Feeder<'_>, input: &[u8], size: usize) -> usize {
     let mut refused = 0usize;
-    for piece in input.chunks(size) {
-        if feeder.feed(piece).is_err() {
-            refused = refused.saturating_add(1);
-        }
+    for piece in input.chunks(size.max(1)) {
+        refused = refused.saturating_add(usize::from(feeder.feed(piece).is_err()));
     }
     refused
 }
@@ -28,150 +26,200 @@ fn feeder_after<'w>(alloc: Global, bytes: &[u8], words: &'w Words, rules: &'w Ru
     }
 }
 
-/// What comes of a front and of pieces of `size` bytes after it: how many of these are refused, how many tokens are ready then, and the
-/// text.
-fn fed(
+/// A feeder that is fed a front at once, and a rest in pieces of `size` bytes.
+fn feeder_of<'w>(
     alloc: Global,
     front: &[u8],
     rest: &[u8],
     size: usize,
-    words: &Words,
-    rules: &Rules,
-) -> (usize, usize, Result<Text, TextFault>)
-    requires { 0 < size }
-{
-    let mut feeder = feeder_after(alloc, rest, words, rules);
+    lists: &'w Lists,
+) -> Feeder<'w> {
+    let mut feeder = feeder_after(alloc, rest, &lists.words, &lists.rules);
     feed(&mut feeder, front, MAX_BYTES);
-    let refused = feed(&mut feeder, rest, size);
-    let ready = feeder.ready();
-    (refused, ready, feeder.finish())
+    feed(&mut feeder, rest, size);
+    feeder
 }
 
-/// Those, or why there is no text.
-fn shown(alloc: Global, text: &Result<Text, TextFault>) -> Result<String, AllocError> {
-    match text {
-        Ok(text) => show_tokens(alloc, text),
-        Err(fault) => format!(in alloc; "{fault}"),
-    }
-}
-
-/// What comes of a front and of pieces, with two equivalent words.
-fn reported(
+/// What the tokens are of a front and of a rest that is fed in pieces of `size` bytes.
+fn shown_as_fed(
     alloc: Global,
     front: &[u8],
     rest: &[u8],
     size: usize,
-) -> Result<(usize, usize, String), Fail>
-    requires { 0 < size }
-{
-    let words = Words::read(alloc, "sub-license,sub license\n")?;
-    let rules = Rules::profile(alloc);
-    let (refused, ready, text) = fed(alloc, front, rest, size, &words, &rules);
-    Ok((refused, ready, shown(alloc, &text)?))
+    lists: &Lists,
+) -> Result<String, AllocError> {
+    shown(alloc, feeder_of(alloc, front, rest, size, lists).finish())
 }
 
-/// What a list of pieces is read as, with the same words.
-fn read_in_pieces(alloc: Global, pieces: &[&[u8]]) -> Result<String, Fail> {
-    let words = Words::read(alloc, "sub-license,sub license\n")?;
-    let rules = Rules::profile(alloc);
-    let text = read_pieces(alloc, pieces, &words, &rules);
-    Ok(shown(alloc, &text)?)
+/// What the tokens are of a list of two pieces.
+fn shown_as_read(
+    alloc: Global,
+    front: &[u8],
+    rest: &[u8],
+    lists: &Lists,
+) -> Result<String, AllocError> {
+    let text = read_pieces(alloc, &[front, rest], &lists.words, &lists.rules);
+    shown(alloc, text)
 }
 
-#[test]
-fn pieces_are_read_as_the_whole(rt: HostRuntime) -> Result<(), Fail> {
-    let table: &[(&[u8], &str)] = &[
-        (b"ab==cd", "ab 0-2, = 2-3, = 3-4, cd 4-6, "),
-        (
-            b"ab===cd\n\ncd====ef",
-            "ab 0-2, cd 5-7, cd 9-11, ef 15-17, ",
-        ),
-        (b"/* Foo\n * bar\n */\n", "foo 3-6, bar 10-13, "),
-        (
-            b"Copyright (C) \xC2\xA9 2001\r\nHTTPS://x.org",
-            "copyright 0-16, 2001 17-21, http 23-28, : 28-29, / 29-30, / 30-31, x 31-32, . 32-33, org 33-36, ",
-        ),
-        (
-            b"\xEF\xAC\x81le so\xC2\xADft\xE2\x80\x94\xE2\x80\x9Cx",
-            "file 0-5, soft 6-12, - 12-15, ' 15-18, x 18-19, ",
-        ),
-        (
-            b"a\xC3(\xE2\x82\n\x80\xF0\x9F\x98",
-            "a\u{FFFD} 0-2, ( 2-3, \u{FFFD}\u{FFFD} 3-5, \u{FFFD}\u{FFFD}\u{FFFD}\u{FFFD} 6-10, ",
-        ),
-        (
-            b"| foo bar |\n# sub license ===\n",
-            "foo 2-5, bar 6-9, sub-license 14-25, ",
-        ),
-        (b"", ""),
-    ];
-    for (input, wanted) in table {
-        for front in 0..input.len() + 1 {
-            let (first, rest) = input.split_at(front.min(input.len()));
-            for size in [1, MAX_BYTES] {
-                let reported = reported(rt.alloc(), first, rest, size)?;
-                assert_eq!(rt; reported.2.as_str(), *wanted, "{input:?} cut at {front}");
-            }
-            let read = read_in_pieces(rt.alloc(), &[first, rest])?;
-            assert_eq!(rt; read.as_str(), *wanted, "{input:?} cut at {front}");
-        }
+/// Feeds an input: what is before the cut at once, and the rest in pieces of `size` bytes.
+fn try_size(
+    rt: &impl Abort,
+    alloc: Global,
+    input: &[u8],
+    cut: usize,
+    size: usize,
+    wanted: &str,
+    lists: &Lists,
+) -> Result<(), AllocError> {
+    let (front, rest) = input.split_at(cut.min(input.len()));
+    let found = shown_as_fed(alloc, front, rest, size, lists)?;
+    assert_same(rt, found.as_str(), wanted, input, cut);
+    Ok(())
+}
+
+/// Reads the two pieces of an input that is cut there.
+fn try_list(
+    rt: &impl Abort,
+    alloc: Global,
+    input: &[u8],
+    cut: usize,
+    wanted: &str,
+    lists: &Lists,
+) -> Result<(), AllocError> {
+    let (front, rest) = input.split_at(cut.min(input.len()));
+    let found = shown_as_read(alloc, front, rest, lists)?;
+    assert_same(rt, found.as_str(), wanted, input, cut);
+    Ok(())
+}
+
+/// Feeds and reads an input that is cut anywhere.
+fn try_cuts(
+    rt: &impl Abort,
+    alloc: Global,
+    input: &[u8],
+    wanted: &str,
+    lists: &Lists,
+) -> Result<(), AllocError> {
+    for cut in 0..input.len() + 1 {
+        try_size(rt, alloc, input, cut, 1, wanted, lists)?;
+        try_size(rt, alloc, input, cut, MAX_BYTES, wanted, lists)?;
+        try_list(rt, alloc, input, cut, wanted, lists)?;
     }
     Ok(())
 }
 
-/// What the whole is read as, with the same words.
-fn read_whole(alloc: Global, input: &[u8]) -> Result<String, Fail> {
-    let words = Words::read(alloc, "sub-license,sub license\n")?;
-    let rules = Rules::profile(alloc);
-    let text = Text::read(alloc, input.to_vec(alloc)?, &words, &rules);
-    Ok(shown(alloc, &text)?)
+/// Inputs and their tokens.
+const WORKED: &[(&[u8], &str)] = &[
+    (b"ab==cd", "ab 0-2, = 2-3, = 3-4, cd 4-6, "),
+    (
+        b"ab===cd\n\ncd====ef",
+        "ab 0-2, cd 5-7, cd 9-11, ef 15-17, ",
+    ),
+    (b"/* Foo\n * bar\n */\n", "foo 3-6, bar 10-13, "),
+    (
+        b"Copyright (C) \xC2\xA9 2001\r\nHTTPS://x.org",
+        "copyright 0-16, 2001 17-21, http 23-28, : 28-29, / 29-30, / 30-31, x 31-32, . 32-33, org 33-36, ",
+    ),
+    (
+        b"\xEF\xAC\x81le so\xC2\xADft\xE2\x80\x94\xE2\x80\x9Cx",
+        "file 0-5, soft 6-12, - 12-15, ' 15-18, x 18-19, ",
+    ),
+    (
+        b"a\xC3(\xE2\x82\n\x80\xF0\x9F\x98",
+        "a\u{FFFD} 0-2, ( 2-3, \u{FFFD}\u{FFFD} 3-5, \u{FFFD}\u{FFFD}\u{FFFD}\u{FFFD} 6-10, ",
+    ),
+    (
+        b"| foo bar |\n# sub license ===\n",
+        "foo 2-5, bar 6-9, sub-license 14-25, ",
+    ),
+    (b"", ""),
+];
+
+#[test]
+fn pieces_are_read_as_the_whole(rt: HostRuntime) -> Result<(), Fail> {
+    let lists = two_words(rt.alloc())?;
+    for (input, wanted) in WORKED {
+        try_cuts(&rt, rt.alloc(), input, wanted, &lists)?;
+    }
+    Ok(())
 }
 
-/// An input of 24 bytes that are drawn from a few, and the state that follows.
-fn drawn(alloc: Global, mut state: u64) -> Result<(Vec<u8>, u64), Fail> {
-    let signs = b"ab (c)=-\n\n#*/.\xC2\xA9\xE2\x80\x9C\xFF\xF0\xEF\xBF\xBD";
-    let mut input = Vec::new(alloc);
-    for _ in 0..24u32 {
-        state = state
-            .wrapping_mul(6364136223846793005)
-            .wrapping_add(1442695040888963407);
-        let place = (state >> 33) as usize % signs.len();
-        input.push(signs[place])?;
+/// The bytes that random inputs are made of.
+const SIGNS: &[&[u8]] = &[
+    b"a", b"b", b" ", b"(", b"c", b")", b"=", b"-", b"\n", b"\n", b"#", b"*", b"/", b".", b"\xC2",
+    b"\xA9", b"\xE2", b"\x80", b"\x9C", b"\xFF", b"\xF0", b"\xEF", b"\xBF", b"\xBD",
+];
+
+/// Feeds an input that is cut as a state has it, in pieces of up to seven bytes.
+fn try_drawn(
+    rt: &impl Abort,
+    alloc: Global,
+    input: &[u8],
+    state: u64,
+    lists: &Lists,
+) -> Result<(), AllocError> {
+    let wanted = shown_whole(alloc, input, lists)?;
+    let cut = (state >> 40) as usize % 24;
+    let size = (state >> 50) as usize % 7 + 1;
+    try_size(rt, alloc, input, cut, size, wanted.as_str(), lists)
+}
+
+/// Tries 4,000 random inputs of 24 bytes.
+fn try_all_drawn(rt: &impl Abort, alloc: Global, lists: &Lists) -> Result<(), AllocError> {
+    let mut state = 1u64;
+    for _ in 0..4000u32 {
+        let (input, next) = drawn_text(alloc, SIGNS, state, 24)?;
+        state = next;
+        try_drawn(rt, alloc, &input, state, lists)?;
     }
-    Ok((input, state))
+    Ok(())
 }
 
 #[test]
 fn random_pieces_are_read_as_the_whole(rt: HostRuntime) -> Result<(), Fail> {
-    let mut state = 1u64;
-    for _ in 0..4000u32 {
-        let (input, next) = drawn(rt.alloc(), state)?;
-        state = next;
-        let (first, rest) = input.split_at(((state >> 40) as usize % 24).min(input.len()));
-        let reported = reported(rt.alloc(), first, rest, (state >> 50) as usize % 7 + 1)?;
-        let whole = read_whole(rt.alloc(), &input)?;
-        assert_eq!(rt; reported.2.as_str(), whole.as_str(), "{input:?}");
-    }
+    let lists = two_words(rt.alloc())?;
+    try_all_drawn(&rt, rt.alloc(), &lists)?;
     Ok(())
+}
+
+/// Thirty-two lines of one token.
+const LINES: &[u8] =
+    b"a\na\na\na\na\na\na\na\na\na\na\na\na\na\na\na\na\na\na\na\na\na\na\na\na\na\na\na\na\na\na\na\n";
+
+/// How many tokens of these lines are ready once they are fed.
+fn count_ready(alloc: Global, lines: usize, lists: &Lists) -> usize {
+    let (input, _) = LINES.split_at(lines.saturating_mul(2).min(LINES.len()));
+    feeder_of(alloc, b"", input, 2, lists).ready()
 }
 
 #[test]
 fn tokens_are_ready_as_lines_come(rt: HostRuntime) -> Result<(), Fail> {
-    let all =
-        b"a\na\na\na\na\na\na\na\na\na\na\na\na\na\na\na\na\na\na\na\na\na\na\na\na\na\na\na\na\na\na\na\n";
+    let lists = two_words(rt.alloc())?;
     for lines in 1..33usize {
-        let (input, _) = all.split_at((2 * lines).min(all.len()));
-        let reported = reported(rt.alloc(), b"", input, 2)?;
-        assert!(rt; reported.1.saturating_add(12) >= lines && reported.1 <= lines);
+        let ready = count_ready(rt.alloc(), lines, &lists);
+        assert!(rt; ready.saturating_add(12) >= lines && ready <= lines);
     }
     Ok(())
 }
 
+/// Feeds as many bytes as there may be and four more: how many of these are refused, how many tokens are ready then, and what is
+/// shown.
+fn refused(alloc: Global, lists: &Lists) -> Result<(usize, usize, String), AllocError> {
+    let long = vec![in alloc; b'a'; MAX_BYTES]?;
+    let mut feeder = Feeder::new(alloc, &lists.words, &lists.rules);
+    feed(&mut feeder, &long, MAX_BYTES);
+    let refused = feed(&mut feeder, b"b\nc\n", 1);
+    let ready = feeder.ready();
+    let shown = shown(alloc, feeder.finish())?;
+    Ok((refused, ready, shown))
+}
+
 #[test]
 fn a_refusal_stays(rt: HostRuntime) -> Result<(), Fail> {
-    let long = vec![in rt.alloc(); b'a'; MAX_BYTES]?;
-    let reported = reported(rt.alloc(), &long, b"b\nc\n", 1)?;
-    assert_eq!(rt; (reported.0, reported.1), (4, 0));
-    assert_eq!(rt; reported.2.as_str(), "X2: more than 67108864 bytes");
+    let lists = two_words(rt.alloc())?;
+    let (refused, ready, shown) = refused(rt.alloc(), &lists)?;
+    assert_eq!(rt; (refused, ready), (4, 0));
+    assert_same(&rt, shown.as_str(), "X2: more than 67108864 bytes", b"", 0);
     Ok(())
 }

@@ -2,7 +2,11 @@
 #![tactic(auto)]
 
 #[cfg(test)]
+mod drawn;
+#[cfg(test)]
 mod feeders;
+#[cfg(test)]
+mod lists;
 #[cfg(test)]
 mod plain;
 #[cfg(test)]

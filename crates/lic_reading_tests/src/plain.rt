@@ -1,11 +1,11 @@
 //! A plain reader to compare with: one character after another, one line after another, and the rewriting of all its tokens.
 
+use crate::shown::add_token;
 use lic_kind::{Rules, is_dropped};
 use lic_lines::{Buffers, FirstToken, push_tokens_of_line};
 use lic_phrases::{FinalToken, Phrases, Rewriter, TokenText, Words};
 use lic_trim::{LinePart, SourceChar};
 use std::alloc::{AllocError, Global};
-use std::fmt::Write;
 use std::str::from_utf8;
 
 /// A line of a whole input.
@@ -15,17 +15,20 @@ const WHOLE_LINE: LinePart = LinePart {
     past: None,
 };
 
+/// The first of the characters of these bytes, if they are some.
+fn first_character(bytes: &[u8]) -> Option<char> {
+    match from_utf8(bytes) {
+        Ok(text) => text.chars().next(),
+        Err(_) => None,
+    }
+}
+
 /// The character that begins at this byte, and how many bytes it has: U+FFFD for a byte at which none begins.
 fn character_at(bytes: &[u8], at: usize) -> (char, usize) {
     for length in 1..5usize {
-        let Some(front) = bytes.get(at..at.saturating_add(length)) else {
-            break;
-        };
-        if let Ok(text) = from_utf8(front) {
-            return (
-                text.chars().next().unwrap_or(char::REPLACEMENT_CHARACTER),
-                length,
-            );
+        let front = bytes.get(at..at.saturating_add(length)).unwrap_or(b"");
+        if let Some(char) = first_character(front) {
+            return (char, length);
         }
     }
     (char::REPLACEMENT_CHARACTER, 1)
@@ -36,9 +39,26 @@ fn byte_number(place: usize) -> u32 {
     u32::try_from(place).unwrap_or(u32::MAX)
 }
 
-/// The source characters of a line that begins at this byte of the input, without the dropped ones.
-fn characters_of(alloc: Global, at: usize, line: &[u8]) -> Result<Vec<SourceChar>, AllocError> {
-    let mut characters = Vec::new(alloc);
+/// Adds a character that begins and ends at these bytes, unless it is dropped.
+fn add_character(
+    characters: &mut Vec<SourceChar>,
+    char: char,
+    start: usize,
+    end: usize,
+) -> Result<(), AllocError> {
+    if is_dropped(char) {
+        return Ok(());
+    }
+    let (start, end) = (byte_number(start), byte_number(end));
+    Ok(characters.push(SourceChar { char, start, end })?)
+}
+
+/// Adds the source characters of a line that begins at this byte of the input, without the dropped ones.
+fn add_characters(
+    characters: &mut Vec<SourceChar>,
+    at: usize,
+    line: &[u8],
+) -> Result<(), AllocError> {
     let mut next = 0;
     for place in 0..line.len() {
         if place < next {
@@ -46,39 +66,56 @@ fn characters_of(alloc: Global, at: usize, line: &[u8]) -> Result<Vec<SourceChar
         }
         let (char, length) = character_at(line, place);
         next = place.saturating_add(length);
-        if !is_dropped(char) {
-            characters.push(SourceChar {
-                char,
-                start: byte_number(at.saturating_add(place)),
-                end: byte_number(at.saturating_add(next)),
-            })?;
-        }
+        let (start, end) = (at.saturating_add(place), at.saturating_add(next));
+        add_character(characters, char, start, end)?;
     }
-    Ok(characters)
+    Ok(())
 }
 
-/// The first tokens of an input.
-fn first_tokens(alloc: Global, rules: &Rules, input: &[u8]) -> Result<Vec<FirstToken>, AllocError> {
-    let mut tokens = Vec::new(alloc);
+/// Adds the first tokens of a line that begins at this byte of the input.
+fn add_line(
+    alloc: Global,
+    rules: &Rules,
+    at: usize,
+    line: &[u8],
+    tokens: &mut Vec<FirstToken>,
+) -> Result<(), AllocError> {
+    let mut characters = Vec::new(alloc);
+    add_characters(&mut characters, at, line)?;
     let mut buffers = Buffers::new(alloc);
+    push_tokens_of_line(alloc, rules, WHOLE_LINE, &characters, &mut buffers, tokens)
+}
+
+/// Adds the first tokens of an input.
+fn add_lines(
+    alloc: Global,
+    rules: &Rules,
+    input: &[u8],
+    tokens: &mut Vec<FirstToken>,
+) -> Result<(), AllocError> {
     let mut start = 0;
     for (place, byte) in input.iter().enumerate() {
         let end = place.saturating_add(1);
         if *byte == b'\n' || end == input.len() {
-            let line = input.get(start..end).unwrap_or(&[]);
-            let characters = characters_of(alloc, start, line)?;
-            push_tokens_of_line(
-                alloc,
-                rules,
-                WHOLE_LINE,
-                &characters,
-                &mut buffers,
-                &mut tokens,
-            )?;
+            let line = input.get(start..end).unwrap_or(b"");
+            add_line(alloc, rules, start, line, tokens)?;
             start = end;
         }
     }
-    Ok(tokens)
+    Ok(())
+}
+
+/// Puts the tokens that come of first tokens by the rewriting where the caller says.
+fn rewrite(
+    rewriter: &mut Rewriter,
+    phrases: &Phrases,
+    tokens: Vec<FirstToken>,
+    settled: &mut Vec<FinalToken>,
+) -> Result<(), AllocError> {
+    for token in tokens {
+        rewriter.push(phrases, token, settled)?;
+    }
+    Ok(())
 }
 
 /// The tokens that come of first tokens by the rewriting.
@@ -89,9 +126,7 @@ fn rewritten(
 ) -> Result<Vec<FinalToken>, AllocError> {
     let mut rewriter = Rewriter::new(alloc);
     let mut settled = Vec::new(alloc);
-    for token in tokens {
-        rewriter.push(phrases, token, &mut settled)?;
-    }
+    rewrite(&mut rewriter, phrases, tokens, &mut settled)?;
     rewriter.finish(phrases, &mut settled)?;
     Ok(settled)
 }
@@ -107,6 +142,20 @@ fn text_of<'a>(phrases: &'a Phrases, token: &'a FinalToken) -> &'a str {
     }
 }
 
+/// The tokens, each as its text and its span.
+fn show_finals(
+    alloc: Global,
+    phrases: &Phrases,
+    tokens: &[FinalToken],
+) -> Result<String, AllocError> {
+    let mut shown = String::new(alloc);
+    for token in tokens {
+        let text = text_of(phrases, token);
+        add_token(&mut shown, text, token.start as usize, token.end as usize)?;
+    }
+    Ok(shown)
+}
+
 /// The tokens of an input, each as its text and its span.
 pub(crate) fn read_plainly(
     alloc: Global,
@@ -114,11 +163,8 @@ pub(crate) fn read_plainly(
     words: &Words,
     rules: &Rules,
 ) -> Result<String, AllocError> {
-    let tokens = first_tokens(alloc, rules, input)?;
-    let mut shown = String::new(alloc);
-    for token in &rewritten(alloc, words.phrases(), tokens)? {
-        let text = text_of(words.phrases(), token);
-        write!(shown, "{} {}-{}, ", text, token.start, token.end)?;
-    }
-    Ok(shown)
+    let mut tokens = Vec::new(alloc);
+    add_lines(alloc, rules, input, &mut tokens)?;
+    let tokens = rewritten(alloc, words.phrases(), tokens)?;
+    show_finals(alloc, words.phrases(), &tokens)
 }

@@ -1,10 +1,13 @@
 //! Random texts, rich in what the fast way of reading has to look at twice, read as a plain reader reads them.
 
+use crate::drawn::{drawn_below, drawn_text, next_state};
+use crate::lists::{Lists, lists_of};
 use crate::plain::read_plainly;
-use crate::shown::show_tokens;
+use crate::shown::{assert_same, shown, shown_whole};
 use lic_kind::Rules;
-use lic_norm::{Feeder, Text, Words};
+use lic_norm::Feeder;
 use std::alloc::{AllocError, Global};
+use std::process::Abort;
 use std::test::Fail;
 
 /// What the texts are made of: words, marks that are joined, separators, comment marks, items, signs, addresses, letters beyond
@@ -122,95 +125,86 @@ const SIMPLE: &[&[u8]] = &[
     b"                                                              ",
 ];
 
-/// The next state of a generator (Knuth's linear congruential one).
-fn next_state(state: u64) -> u64 {
-    state
-        .wrapping_mul(6364136223846793005)
-        .wrapping_add(1442695040888963407)
-}
-
-/// A number below `count` that is drawn by a state.
-fn drawn_below(state: u64, count: usize) -> usize {
-    ((state >> 33) as usize).checked_rem(count).unwrap_or(0)
-}
-
-/// A text of so many of these fragments, and the state that follows.
-fn drawn_text(
-    alloc: Global,
-    fragments: &[&[u8]],
-    mut state: u64,
-    count: usize,
-) -> Result<(Vec<u8>, u64), AllocError> {
-    let mut text = Vec::new(alloc);
-    for _ in 0..count {
-        state = next_state(state);
-        let number = drawn_below(state, fragments.len());
-        text.extend_from_slice(fragments.get(number).copied().unwrap_or(b""))?;
-    }
-    Ok((text, state))
-}
-
-/// The tokens of a text that is fed in pieces of random lengths.
-fn read_in_pieces(
-    alloc: Global,
-    input: &[u8],
-    mut state: u64,
-    words: &Words,
-    rules: &Rules,
-) -> Result<String, Fail> {
-    let mut feeder = Feeder::new(alloc, words, rules);
+/// Feeds a text in pieces of random lengths, whatever is answered: a refusal stays.
+fn feed_pieces(feeder: &mut Feeder<'_>, input: &[u8], mut state: u64) {
     let mut start = 0;
     for end in 1..input.len() + 1 {
         state = next_state(state);
         if end == input.len() || drawn_below(state, 40) == 0 {
-            feeder.feed(input.get(start..end).unwrap_or(b""))?;
+            let _ = feeder.feed(input.get(start..end).unwrap_or(b""));
             start = end;
         }
     }
-    Ok(show_tokens(alloc, &feeder.finish()?)?)
 }
 
-/// The first of some random texts of these fragments that the plain reader reads in another way, whole or in pieces, and what both
-/// make of it.
-fn first_difference(
+/// The tokens of a text that is fed in pieces of random lengths.
+fn shown_in_pieces(
+    alloc: Global,
+    input: &[u8],
+    state: u64,
+    lists: &Lists,
+) -> Result<String, AllocError> {
+    let mut feeder = Feeder::new(alloc, &lists.words, &lists.rules);
+    feed_pieces(&mut feeder, input, state);
+    shown(alloc, feeder.finish())
+}
+
+/// Reads a text plainly, at once and in pieces.
+fn try_text(
+    rt: &impl Abort,
+    alloc: Global,
+    input: &[u8],
+    state: u64,
+    lists: &Lists,
+) -> Result<(), AllocError> {
+    let wanted = read_plainly(alloc, input, &lists.words, &lists.rules)?;
+    let whole = shown_whole(alloc, input, lists)?;
+    assert_same(rt, whole.as_str(), wanted.as_str(), input, 0);
+    let pieces = shown_in_pieces(alloc, input, state, lists)?;
+    assert_same(rt, pieces.as_str(), wanted.as_str(), input, input.len());
+    Ok(())
+}
+
+/// Tries 1,500 random texts of these fragments.
+fn try_texts(
+    rt: &impl Abort,
     alloc: Global,
     fragments: &[&[u8]],
-    words: &str,
-    rules: &Rules,
-) -> Result<String, Fail> {
-    let words = Words::read(alloc, words)?;
+    lists: &Lists,
+) -> Result<(), AllocError> {
     let mut state = 1u64;
     for number in 0..1500usize {
         let (input, next) = drawn_text(alloc, fragments, state, number % 60 + 1)?;
         state = next;
-        let wanted = read_plainly(alloc, &input, &words, rules)?;
-        let text = Text::read(alloc, input.to_vec(alloc)?, &words, rules)?;
-        let whole = show_tokens(alloc, &text)?;
-        let pieces = read_in_pieces(alloc, &input, state, &words, rules)?;
-        if wanted != whole || wanted != pieces {
-            return Ok(format!(in alloc;
-                "{input:?}: {wanted}; whole: {whole}; in pieces: {pieces}"
-            )?);
-        }
+        try_text(rt, alloc, &input, state, lists)?;
     }
-    Ok(String::new(alloc))
+    Ok(())
+}
+
+/// Tries random texts of these fragments by the words of a list and by rules.
+fn try_fragments(
+    rt: &impl Abort,
+    alloc: Global,
+    fragments: &[&[u8]],
+    words: &str,
+    rules: Rules,
+) -> Result<(), Fail> {
+    let lists = lists_of(alloc, words, rules)?;
+    try_texts(rt, alloc, fragments, &lists)?;
+    Ok(())
 }
 
 #[test]
 fn random_texts_are_read_by_the_profile(rt: HostRuntime) -> Result<(), Fail> {
     let rules = Rules::profile(rt.alloc());
-    let found = first_difference(rt.alloc(), FRAGMENTS, "", &rules)?;
-    assert_eq!(rt; found.as_str(), "");
-    Ok(())
+    try_fragments(&rt, rt.alloc(), FRAGMENTS, "", rules)
 }
 
 #[test]
 fn random_texts_are_read_by_equivalent_words(rt: HostRuntime) -> Result<(), Fail> {
     let rules = Rules::profile(rt.alloc());
     let words = "sub-license,sub license\nfoo,foo bar foo\ncopyright owner,a\n";
-    let found = first_difference(rt.alloc(), FRAGMENTS, words, &rules)?;
-    assert_eq!(rt; found.as_str(), "");
-    Ok(())
+    try_fragments(&rt, rt.alloc(), FRAGMENTS, words, rules)
 }
 
 #[test]
@@ -219,18 +213,20 @@ fn random_texts_are_read_by_other_rules(rt: HostRuntime) -> Result<(), Fail> {
         rt.alloc(),
         "lead //\nlead *\nlead-space Foo\ntail */\ntail-space |\ntail-repeat -\nitems off\nseparators off\n",
     )?;
-    let found = first_difference(rt.alloc(), FRAGMENTS, "sub-license,sub license\n", &rules)?;
-    assert_eq!(rt; found.as_str(), "");
-    Ok(())
+    try_fragments(
+        &rt,
+        rt.alloc(),
+        FRAGMENTS,
+        "sub-license,sub license\n",
+        rules,
+    )
 }
 
 #[test]
 fn random_texts_of_simple_characters_are_read_by_the_profile(rt: HostRuntime) -> Result<(), Fail> {
     let rules = Rules::profile(rt.alloc());
     let words = "sub-license,sub license\nfoo,foo bar foo\n\u{E9}t\u{E9},a\n";
-    let found = first_difference(rt.alloc(), SIMPLE, words, &rules)?;
-    assert_eq!(rt; found.as_str(), "");
-    Ok(())
+    try_fragments(&rt, rt.alloc(), SIMPLE, words, rules)
 }
 
 #[test]
@@ -239,7 +235,5 @@ fn random_texts_of_simple_characters_are_read_by_other_rules(rt: HostRuntime) ->
         rt.alloc(),
         "lead Foo\nlead-space .\ntail a\ntail-space -\ntail-repeat -\nitems off\nseparators off\n",
     )?;
-    let found = first_difference(rt.alloc(), SIMPLE, "sub-license,sub license\n", &rules)?;
-    assert_eq!(rt; found.as_str(), "");
-    Ok(())
+    try_fragments(&rt, rt.alloc(), SIMPLE, "sub-license,sub license\n", rules)
 }

@@ -1,9 +1,9 @@
 //! Worked texts: joined marks, separators, comment marks and items, over borders of columns of 64 bytes too.
 
-use crate::shown::show_tokens;
-use lic_kind::Rules;
-use lic_norm::{Text, Words};
-use std::alloc::Global;
+use crate::lists::{Lists, no_words};
+use crate::shown::{assert_same, shown_whole};
+use std::alloc::{AllocError, Global};
+use std::process::Abort;
 use std::test::Fail;
 
 /// How many blanks a text begins with, what follows, and its tokens by the profile.
@@ -43,22 +43,33 @@ const WORKED: &[(usize, &str, &str)] = &[
     (57, "* \u{436} **/\n* 2\n", "\u{436} 59-61, 2 68-69, "),
 ];
 
-/// The tokens of a text after so many blanks.
-fn tokens_after(alloc: Global, blanks: usize, text: &str) -> Result<String, Fail> {
-    let mut input = Vec::new(alloc);
-    for _ in 0..blanks {
-        input.push(b' ')?;
-    }
+/// A text after so many blanks.
+fn after_blanks(alloc: Global, blanks: usize, text: &str) -> Result<Vec<u8>, AllocError> {
+    let mut input = vec![in alloc; b' '; blanks]?;
     input.extend_from_slice(text.as_bytes())?;
-    let text = Text::read(alloc, input, &Words::none(alloc), &Rules::profile(alloc))?;
-    Ok(show_tokens(alloc, &text)?)
+    Ok(input)
+}
+
+/// Reads a text after so many blanks.
+fn try_worked(
+    rt: &impl Abort,
+    alloc: Global,
+    blanks: usize,
+    text: &str,
+    wanted: &str,
+    lists: &Lists,
+) -> Result<(), AllocError> {
+    let input = after_blanks(alloc, blanks, text)?;
+    let found = shown_whole(alloc, &input, lists)?;
+    assert_same(rt, found.as_str(), wanted, text.as_bytes(), blanks);
+    Ok(())
 }
 
 #[test]
 fn worked_texts_have_these_tokens(rt: HostRuntime) -> Result<(), Fail> {
-    let alloc = rt.alloc();
+    let lists = no_words(rt.alloc());
     for (blanks, text, wanted) in WORKED {
-        assert_eq!(rt; tokens_after(alloc, *blanks, text)?.as_str(), *wanted);
+        try_worked(&rt, rt.alloc(), *blanks, text, wanted, &lists)?;
     }
     Ok(())
 }

@@ -8,7 +8,7 @@ use Rattle.lic_norm.specs.Tokens.{TokenValue}
 use Rattle.lic_norm.specs.Places.{place_end, place_start, texts_of}
 use Rattle.lic_fields.specs.Fields.{escaped, field}
 use Rattle.lic_report.specs.Report.{token_line}
-use Rattle.lic_norm.specs.declared.token.Span.{Span}
+use Rattle.lic_tokens.specs.declared.token.Span.{Span}
 use Rattle.lic_places.proofs.TieEnds.{bytes_from_start, place_end-start, place_end-order}
 use Rattle.lic_places.proofs.TokenPlaces.{place_end-last}
 

@@ -5,7 +5,7 @@ use Rattle.std.proofs.lemmas.List.{length-map, get_or-map, get_or_default}
 use Rattle.std.proofs.lemmas.List.Elements.{Contains-get_or}
 use Rattle.lic_norm.specs.Spans.{AreRising, AreSpans}
 use Rattle.lic_norm.specs.Tokens.{TokenValue}
-use Rattle.lic_norm.specs.declared.token.Span.{Span}
+use Rattle.lic_tokens.specs.declared.token.Span.{Span}
 use Rattle.lic_set.specs.Sets.{Known}
 use Rattle.lic_set.specs.Matches.{AreMatches, IsMatch}
 use Rattle.lic_set.specs.declared.triple.Triple.{Triple}

@@ -3,7 +3,7 @@ use Rattle.std.specs.Prelude.{◌≡◌, ℕ, Bool, true, false, List, [], ◌++
 use Rattle.std.specs.List.{flat_map, slice_index_or}
 use Rattle.lic_kind.specs.LineRules.{LineRules}
 use Rattle.lic_norm.specs.Tokens.{TokenValue, tokens_of}
-use Rattle.lic_norm.specs.declared.token.Span.{Span}
+use Rattle.lic_tokens.specs.declared.token.Span.{Span}
 use Rattle.lic_phrases.specs.Rewriting.{Phrase}
 use Rattle.lic_set.specs.Sets.{Known}
 use Rattle.lic_set.specs.Matches.{AreMatches}

@@ -3,7 +3,7 @@
 ghost use Rattle.std.specs.Prelude.{◌≡◌, ◌<◌, ◌≤◌, ◌++◌, ℕ, List, length, OnOk, Some};
 ghost use Rattle.std.specs.List.{slice_index_or};
 ghost use Rattle.lic_fields.specs.Fields.{escaped, field};
-ghost use Rattle.lic_norm.specs.declared.token.Span.{Span};
+ghost use Rattle.lic_tokens.specs.declared.token.Span.{Span};
 ghost use Rattle.lic_vars.specs.Views.{value_of};
 ghost use Rattle.lic_report.specs.Checking.{check_line};
 ghost use Rattle.lic_report.specs.Report.{token_line, place_fields, value_line, no_known, no_token};

@@ -3,7 +3,7 @@
 ghost use Rattle.std.specs.Prelude.{◌≡◌, ◌≤◌, ◌++◌, ℕ, List, All, length, map, OnOk, Some};
 ghost use Rattle.std.specs.List.{flat_map};
 ghost use Rattle.lic_set.specs.Matches.{IsMatch};
-ghost use Rattle.lic_norm.specs.declared.token.Span.{Span};
+ghost use Rattle.lic_tokens.specs.declared.token.Span.{Span};
 ghost use Rattle.lic_vars.specs.Values.{Assigned, AreValues};
 ghost use Rattle.lic_vars.specs.Views.{value_of};
 ghost use Rattle.lic_report.specs.Report.{value_line, valued_lines};

@@ -7,7 +7,7 @@ use Rattle.lic_words.specs.Words.{Word}
 use Rattle.lic_words.specs.Spelling.{Spells}
 use Rattle.lic_norm.specs.Tokens.{TokenValue}
 use Rattle.lic_norm.specs.Places.{place_end}
-use Rattle.lic_norm.specs.declared.token.Span.{Span}
+use Rattle.lic_tokens.specs.declared.token.Span.{Span}
 use Rattle.lic_places.specs.Places.{AreTexts}
 use Rattle.lic_places.specs.Reads.{BeginsAt, Reads}
 use Rattle.lic_places.proofs.TieRange.{spelling_is_read}

@@ -4,7 +4,7 @@ use Rattle.std.proofs.lemmas.List.{drop-drop, get_or-take, get_or-drop}
 use Rattle.std.specs.List.{Contains}
 use Rattle.std.specs.Str.{chars}
 use Rattle.lic_norm.specs.Tokens.{TokenValue}
-use Rattle.lic_norm.specs.declared.token.Span.{Span}
+use Rattle.lic_tokens.specs.declared.token.Span.{Span}
 use Rattle.lic_set.specs.Sets.{Known}
 use Rattle.lic_set.specs.declared.triple.Triple.{Triple}
 use Rattle.lic_words.specs.Letters.{letters_in}

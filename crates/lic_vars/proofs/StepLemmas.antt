@@ -6,7 +6,7 @@ use Rattle.lic_words.specs.Words.{Word}
 use Rattle.lic_words.specs.Letters.{letters_in}
 use Rattle.lic_words.specs.Expressions.{Expression}
 use Rattle.lic_norm.specs.Tokens.{TokenValue}
-use Rattle.lic_norm.specs.declared.token.Span.{Span}
+use Rattle.lic_tokens.specs.declared.token.Span.{Span}
 use Rattle.lic_places.specs.Places.{AreTexts, OverBlank, spelling_of}
 use Rattle.lic_places.specs.Reads.{Reads}
 use Rattle.lic_places.proofs.Reading.{Reads-cut, Reads-order}

@@ -4,7 +4,7 @@ use Rattle.std.proofs.lemmas.List.{drop-drop}
 use Rattle.std.specs.Str.{chars}
 use Rattle.lic_words.specs.Words.{Word, blank}
 use Rattle.lic_words.specs.Letters.{letters_in}
-use Rattle.lic_norm.specs.declared.token.Span.{Span}
+use Rattle.lic_tokens.specs.declared.token.Span.{Span}
 use Rattle.lic_markup.specs.Parts.{Nodes, no_node, one_more}
 use Rattle.lic_markup.specs.Parts as parts
 use Rattle.lic_vars.specs.Derivations.{Choice, word_of, record_of}

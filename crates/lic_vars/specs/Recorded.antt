@@ -1,7 +1,7 @@
 -- The values that a record gives.
 use Rattle.std.specs.Prelude.{◌≡◌, ℕ, zero, suc, ◌==◌, List, [], ◌∷◌, ◌++◌, take, drop, None, slice_index_or, if◌then◌else◌}
 use Rattle.lic_norm.specs.Tokens.{TokenValue}
-use Rattle.lic_norm.specs.declared.token.Span.{Span}
+use Rattle.lic_tokens.specs.declared.token.Span.{Span}
 use Rattle.lic_words.specs.Letters.{letters_in}
 use Rattle.lic_vars.specs.Values.{Assigned, covered}
 use Rattle.lic_vars.specs.Moves.{Move, text, variable, optional}

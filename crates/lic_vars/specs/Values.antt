@@ -1,7 +1,7 @@
 -- The values of a derivation: what each variable matched.
 use Rattle.std.specs.Prelude.{◌≡◌, ℕ, ◌+◌, ◌≤◌, List, [], ◌∷◌, ◌++◌, map, take, drop, replicate, Option, Some, None, chars, slice_get, slice_index_or, slice_range}
 use Rattle.lic_norm.specs.Tokens.{TokenValue}
-use Rattle.lic_norm.specs.declared.token.Span.{Span}
+use Rattle.lic_tokens.specs.declared.token.Span.{Span}
 use Rattle.lic_markup.specs.Parts.{Nodes, no_node, one_more, letters, variable, optional, part_of, sequence}
 use Rattle.lic_set.specs.Sets.{Known}
 use Rattle.lic_set.specs.Matches.{letters_between}

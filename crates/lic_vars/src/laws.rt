@@ -3,7 +3,7 @@
 ghost use Rattle.std.specs.Prelude.{◌≡◌, ◌↔◌, ℕ, [], List, Contains, Some};
 ghost use Rattle.lic_words.specs.Describing.{IsDescribed};
 ghost use Rattle.lic_norm.specs.Tokens.{TokenValue};
-ghost use Rattle.lic_norm.specs.declared.token.Span.{Span};
+ghost use Rattle.lic_tokens.specs.declared.token.Span.{Span};
 ghost use Rattle.lic_markup.specs.Parts.{Nodes};
 ghost use Rattle.lic_markup.specs.Meaning.{nodes_words};
 ghost use Rattle.lic_set.specs.Sets.{Known};

@@ -1,7 +1,7 @@
 //! The values of the least record: each choice from the first step on is the least from which the steps that are left can finish.
 
 ghost use Rattle.std.specs.Prelude.{◌≡◌, ◌+◌, ◌-◌, ◌<◌, ◌≤◌, ◌∷◌, ◌++◌, All, IfOk, List, OnOk, length, map, suc, ℕ};
-ghost use Rattle.lic_norm.specs.declared.token.Span.{Span};
+ghost use Rattle.lic_tokens.specs.declared.token.Span.{Span};
 ghost use Rattle.lic_places.specs.Places.{spelling_of};
 ghost use Rattle.lic_vars.specs.Making.{CanMake};
 ghost use Rattle.lic_vars.specs.Moves.{Move};

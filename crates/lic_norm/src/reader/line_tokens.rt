@@ -7,15 +7,13 @@ ghost use Rattle.lic_lines.specs.Cells.{cells_of};
 ghost use Rattle.lic_lines.specs.Streaks.{streaks_joined};
 ghost use Rattle.lic_lines.specs.Tokens.{Token, first_tokens, line_tokens};
 ghost use Rattle.lic_norm.specs.Feeding.{AreLines};
-ghost use Rattle.lic_norm.specs.Reading.{HasTaken, HasTakenSome, phrases_of};
+ghost use Rattle.lic_tokens.specs.Taking.{HasTaken, HasTakenSome, phrases_of};
 ghost use Rattle.lic_norm.specs.Tokens.{first_tokens_of, line_tokens_of};
 
 use crate::reader::characters::read_characters;
-use crate::rewriting::batch::Batch;
-use crate::rewriting::stretch::Stretch;
-use crate::rewriting::{PartBuffers, Rewriting};
 use lic_columns::Lines;
-use lic_lines::{Buffers, Rules, left_of_line};
+use lic_lines::{Rules, left_of_line};
+use lic_tokens::{Batch, PartBuffers, Rewriting, Stretch};
 use lic_trim::{LinePart, SourceChar};
 use simdutf8::compat::from_utf8;
 use std::alloc::{AllocError, Global};
@@ -63,10 +61,7 @@ impl LineBuffers {
         LineBuffers {
             characters: Vec::new(alloc),
             letters: String::new(alloc),
-            part: PartBuffers {
-                buffers: Buffers::new(alloc),
-                tokens: Vec::new(alloc),
-            },
+            part: PartBuffers::new(alloc),
             lines: Lines::new(alloc),
             batch: Batch::new(),
         }

@@ -6,7 +6,7 @@ use Rattle.lic_phrases.specs.TokenTexts.{IsTokenText}
 use Rattle.lic_norm.specs.Tokens.{TokenValue, tokens_of}
 use Rattle.lic_norm.specs.Spans.{AreTokenTexts}
 use Rattle.lic_pieces.specs.declared.pieces.Next.TheVariants.{LineEnd}
-use Rattle.lic_norm.proofs.TokenTexts.{tokens_of-AreTokenTexts}
+use Rattle.lic_norm.proofs.TextLemmas.{tokens_of-AreTokenTexts}
 use Rattle.lic_markup.specs.declared.part.Part.TheVariants.{Text}
 use Rattle.lic_markup.specs.Meaning.{part_words}
 use Rattle.lic_markup.proofs.PieceLemmas.{piece_described}

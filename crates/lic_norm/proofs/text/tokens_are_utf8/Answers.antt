@@ -1,6 +1,6 @@
 use Rattle.std.proofs.Common.{All, List, ap, subst}
 use Rattle.std.specs.Str.{IsUtf8}
-use Rattle.lic_norm.specs.Tokens.{TokenValue}
+use Rattle.lic_tokens.specs.Tokens.{TokenValue}
 use Rattle.lic_norm.proofs.text.tokens_are_utf8.Goals as goal
 
 pub returns : goal.returns

@@ -5,7 +5,7 @@ use Rattle.lic_lines.specs.Tokens.{Token}
 use Rattle.lic_lines.specs.declared.cell.Cell.{Cell}
 use Rattle.lic_pieces.specs.Edges.{HasEdges}
 use Rattle.lic_pieces.specs.Pieces.{bare_token, piece_cells, piece_tokens}
-use Rattle.lic_norm.specs.Reading.{HasTaken, phrases_of}
+use Rattle.lic_norm.specs.Taking.{HasTaken, phrases_of}
 use Rattle.lic_pieces.proofs.piece_reader.read_piece.Given as goal
 
 -- the edges of the list and the tokens of the lines so far, and those of what follows them

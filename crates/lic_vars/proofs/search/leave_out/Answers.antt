@@ -1,7 +1,7 @@
 -- One step more is left out.
 use Rattle.std.proofs.Common.{◌≡◌, ℕ, zero, suc, ◌-◌, ◌<◌, ◌≤◌, ◌++◌, inl, inr, List, [], map, refl, sym, ap, ◌∙◌, arith}
 use Rattle.std.proofs.lemmas.Bool.{cases_lt}
-use Rattle.lic_norm.specs.declared.token.Span.{Span}
+use Rattle.lic_tokens.specs.declared.token.Span.{Span}
 use Rattle.lic_vars.specs.Moves.{Move}
 use Rattle.lic_vars.specs.Cuts.{last_moves}
 use Rattle.lic_vars.specs.Recorded.{recorded}

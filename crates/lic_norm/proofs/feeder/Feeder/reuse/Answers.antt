@@ -1,7 +1,7 @@
 use Rattle.std.proofs.Common.{ℕ, List, [], None, ap, ap₂, ◌∙◌}
 use Rattle.lic_kind.specs.LineRules.{LineRules, rules_of}
 use Rattle.lic_norm.specs.Feeding.{FeederValue}
-use Rattle.lic_norm.specs.Tokens.{TokenValue}
+use Rattle.lic_tokens.specs.Tokens.{TokenValue}
 use Rattle.lic_norm.proofs.feeder.Feeder.reuse.Goals as goal
 
 pub returns : goal.returns

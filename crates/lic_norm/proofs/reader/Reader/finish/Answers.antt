@@ -3,7 +3,8 @@ use Rattle.std.specs.List.{slice_range}
 use Rattle.lic_kind.specs.LineRules.{rules_of}
 use Rattle.lic_phrases.specs.Rewriting.{rewritten}
 use Rattle.lic_norm.specs.LineEnds.{IsFirstLine}
-use Rattle.lic_norm.specs.Tokens.{reported, first_tokens_of}
+use Rattle.lic_tokens.specs.Tokens.{reported}
+use Rattle.lic_norm.specs.Tokens.{first_tokens_of}
 use Rattle.lic_norm.proofs.ReaderLemmas.{last_line}
 use Rattle.lic_norm.proofs.reader.Reader.finish.Goals as goal
 

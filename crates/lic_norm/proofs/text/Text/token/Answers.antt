@@ -1,5 +1,5 @@
 use Rattle.std.proofs.Common.{◌≡◌, ◌<◌, ◌≤◌, length, get_or, [], ap, sym, subst, arith}
-use Rattle.lic_norm.specs.Tokens.{TokenValue}
+use Rattle.lic_tokens.specs.Tokens.{TokenValue}
 use Rattle.lic_norm.specs.Spans.{IsTokenText}
 use Rattle.lic_norm.proofs.TokenSpans.{AreRising-at}
 use Rattle.lic_norm.proofs.text.Text.token.Goals as goal

@@ -4,7 +4,7 @@ use Rattle.lic_lines.specs.Cells.{line_cells}
 use Rattle.lic_lines.specs.Streaks.{streaks_joined}
 use Rattle.lic_lines.specs.Tokens.{line_tokens}
 use Rattle.lic_pieces.specs.Edges.{HasEdges}
-use Rattle.lic_norm.specs.Reading.{HasTaken}
+use Rattle.lic_norm.specs.Taking.{HasTaken}
 use Rattle.lic_pieces.proofs.piece_reader.PieceReader.take_left.Goals as goal
 
 pub returns-clause-edges : goal.returns-clause-edges

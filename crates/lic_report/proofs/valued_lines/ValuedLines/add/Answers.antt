@@ -1,7 +1,7 @@
 use Rattle.std.proofs.Common.{rules, ◌≡◌, List, ◌++◌, ◌∙◌, Some, ap, map, subst, sym}
 use Rattle.std.specs.List.{All}
 use Rattle.lic_norm.specs.Tokens.{TokenValue}
-use Rattle.lic_norm.specs.declared.token.Span.{Span}
+use Rattle.lic_tokens.specs.declared.token.Span.{Span}
 use Rattle.lic_vars.specs.Values.{AreValues}
 use Rattle.lic_vars.specs.Views.{value_of}
 use Rattle.lic_report.specs.Prefixes.{Named}

@@ -1,4 +1,0 @@
-use Rattle.lic_norm.proofs.rewriting.token_list.utf8_text.Goals as goal
-
-pub unreachable-requires : goal.unreachable-requires
-unreachable-requires c = c.in-Err.ensures.cases.0 c.requires

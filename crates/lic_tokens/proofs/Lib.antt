@@ -1,0 +1,12 @@
+pub mod GroupLemmas
+pub mod SpellingPlaces
+pub mod ListedTokens
+pub mod TokenTexts
+pub mod EntryLemmas
+pub mod CopyLemmas
+pub mod PartedLemmas
+pub mod WordTexts
+pub mod WordBytes
+pub mod StretchTokens
+pub mod TakenSteps
+pub mod BatchLemmas

@@ -1,0 +1,15 @@
+use Rattle.std.proofs.Common.{List, subst, sym}
+use Rattle.lic_tokens.specs.Taking.{HasTakenUpTo}
+use Rattle.lic_tokens.specs.Tokens.{TokenValue}
+use Rattle.lic_tokens.specs.declared.rewriting.Rewriting.{Rewriting}
+use Rattle.lic_tokens.proofs.rewriting.Rewriting.take_batch.Goals as goal
+
+pub add-requires : goal.add-requires
+add-requires c = let told = c.spell-next.ensures.held.holds in record { tokens = told.added; spelled = told.spelled }
+
+pub returns-clause-taken : goal.returns-clause-taken
+returns-clause-taken c =
+    let told = c.spell-next.ensures.held.holds in
+    let self : Rewriting = c.args.self.now in
+    subst (λ (ts : List TokenValue). HasTakenUpTo c.args.stretch.now c.args.i c.spell-next.result.next self (record self { tokens = ts }))
+    (sym (c.in_ok-add.ensures told.added told.spelled)) told.taken

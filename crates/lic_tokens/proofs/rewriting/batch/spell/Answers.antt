@@ -1,0 +1,38 @@
+use Rattle.std.proofs.Common.{◌≡◌, ◌-◌, [], length, ap, sym, ◌∙◌, append-nil, subst, arith, take}
+use Rattle.std.specs.Str.{IsUtf8}
+use Rattle.lic_phrases.specs.Spelling.{ends_in_word}
+use Rattle.lic_tokens.specs.Batches.{HasSpelledUpTo}
+use Rattle.lic_tokens.proofs.BatchLemmas.{none_spelled_yet}
+use Rattle.lic_tokens.proofs.StretchTokens.{no_token}
+use Rattle.lic_tokens.proofs.rewriting.batch.spell.Goals as goal
+
+pub loop-state-init : goal.loop-state-init
+loop-state-init c =
+    let i = c.args.i in
+    let none : 0 ≡ i - i = omega arith in
+    record {
+      within = omega arith;
+      held = record {
+        from = omega arith;
+        short = omega arith;
+        utf8 = subst IsUtf8 c.spelled-spelled.ensures c.spelled-spelled.utf8;
+        holds = subst (λ n. HasSpelledUpTo c.args.stretch.now i i c.args.rewriting.now [] (take n c.args.batch.now.entries)) none
+            (none_spelled_yet c.args.stretch.now i c.args.rewriting.now);
+        word = c.ends_in_word.ensures ∙ ap ends_in_word (c.spelled-spelled.ensures ∙ sym (append-nil _));
+      };
+    }
+
+pub put_token-state-requires-clause-front : goal.put_token-state-requires-clause-front
+put_token-state-requires-clause-front c =
+    let texts = c.in-Some.ensures.text no_token in
+    texts ∙ c.letters_from-letters.ensures.front no_token ∙ ap (λ l. take (length l) c.letters_from-letters.result.now) (sym texts)
+
+pub loop-state-smaller : goal.loop-state-smaller
+loop-state-smaller c =
+    omega (
+      arith,
+      c.loop-state-test.true,
+      c.spell_plain-state.ensures.grown,
+      c.spell_plain-state.ensures.within,
+      c.put_token-state.ensures.next,
+    )

@@ -1,0 +1,14 @@
+use Rattle.std.proofs.Common.{◌-◌, ◌≤◌}
+use Rattle.lic_tokens.specs.Batches.{AreInBatch}
+use Rattle.lic_tokens.proofs.rewriting.batch.spell_plain.Given as goal
+
+-- the tokens so far are in the batch
+abbrev pub invariant-loop-state : goal.invariant-loop-state
+invariant-loop-state l = record {
+  grown : l.fn.from.next ≤ l.state.next;
+  within : l.state.next ≤ l.last;
+  held : AreInBatch l.stretch l.i l.rewriting l.batch l.state;
+}
+
+abbrev pub decreases-loop-state : goal.decreases-loop-state
+decreases-loop-state l = l.last - l.state.next

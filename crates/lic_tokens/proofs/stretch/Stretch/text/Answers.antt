@@ -1,0 +1,8 @@
+use Rattle.std.proofs.Common.{◌∙◌}
+use Rattle.lic_tokens.proofs.stretch.Stretch.text.Goals as goal
+
+pub token_text-requires-clause-some : goal.token_text-requires-clause-some
+token_text-requires-clause-some c = c.letters_of.ensures.some
+
+pub returns-clause-text : goal.returns-clause-text
+returns-clause-text c = λ d. c.token_text.ensures.text ∙ c.letters_of.ensures.text d

@@ -1,0 +1,37 @@
+-- Tokens that are spelled together before they are added to a list.
+use Rattle.std.specs.Prelude.{◌≡◌, ℕ, ◌-◌, ◌*◌, ◌≤◌, List, ◌++◌, take, IsUtf8}
+use Rattle.lic_lines.specs.Tokens.{Token}
+use Rattle.lic_phrases.specs.Spelling.{ends_in_word, spelled}
+use Rattle.lic_tokens.specs.Places.{texts_of}
+use Rattle.lic_tokens.specs.Taking.{HasTakenUpTo}
+use Rattle.lic_tokens.specs.Tokens.{TokenValue}
+use Rattle.lic_tokens.specs.Entries.{IsKept}
+use Rattle.lic_tokens.specs.declared.rewriting.Rewriting.{Rewriting}
+use Rattle.lic_tokens.specs.declared.rewriting.batch.Batch.{Batch}
+use Rattle.lic_tokens.specs.declared.rewriting.batch.Spelled.{Spelled}
+use Rattle.lic_tokens.specs.declared.token_list.Entry.{Entry}
+
+-- by these bytes and entries, put after those of the tokens before, these tokens are kept as well
+pub record AreSpelledAfter (before tokens : List TokenValue) (bytes : List ℕ) (entries : List Entry) : Type 0 where
+  pub utf8 : IsUtf8 bytes
+  pub kept : (spelling : List ℕ) (others : List Entry) → IsKept spelling others before
+      → IsKept (spelling ++ bytes) (others ++ entries) (before ++ tokens)
+
+-- some tokens are
+pub record HasSpelled (before : List TokenValue) (bytes : List ℕ) (entries : List Entry) : Type 0 where
+  pub tokens : List TokenValue
+  pub spelled : AreSpelledAfter before tokens bytes entries
+
+-- Of these tokens those from the number `i` on and before the number `next` are; once they are in its list, the rewriting has taken them.
+pub record HasSpelledUpTo (tokens : List Token) (i next : ℕ) (rewriting : Rewriting) (bytes : List ℕ) (entries : List Entry) : Type 0 where
+  pub added : List TokenValue
+  pub spelled : AreSpelledAfter rewriting.tokens added bytes entries
+  pub taken : HasTakenUpTo tokens i next rewriting (record rewriting { tokens = rewriting.tokens ++ added })
+
+-- the tokens from the number `i` on are in a batch, as far as they are spelled there, each in at most 17 bytes
+pub record AreInBatch (tokens : List Token) (i : ℕ) (rewriting : Rewriting) (batch : Batch) (state : Spelled) : Type 0 where
+  pub from : i ≤ state.next
+  pub short : state.place ≤ 17 * (state.next - i)
+  pub utf8 : IsUtf8 (spelled (texts_of rewriting.tokens))
+  pub holds : HasSpelledUpTo tokens i state.next rewriting (take state.place batch.bytes) (take (state.next - i) batch.entries)
+  pub word : state.after_word ≡ ends_in_word (spelled (texts_of rewriting.tokens) ++ take state.place batch.bytes)

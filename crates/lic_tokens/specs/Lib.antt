@@ -1,0 +1,6 @@
+pub mod Tokens
+pub mod Places
+pub mod Entries
+pub mod Taking
+pub mod Stretches
+pub mod Batches

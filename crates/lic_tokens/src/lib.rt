@@ -1,0 +1,14 @@
+//! The tokens of a text: their list, its spelling, and phrases rewritten into it.
+#![tactic(auto)]
+
+mod rewriting;
+mod stretch;
+mod token;
+mod token_list;
+mod word_bytes;
+
+pub use rewriting::batch::Batch;
+pub use rewriting::{PartBuffers, Rewriting};
+pub use stretch::Stretch;
+pub use token::{Span, Token};
+pub use token_list::TokenList;
