@@ -9,10 +9,11 @@ from dataclasses import dataclass, field
 NONE = re.compile(r"no-grant-|same-as-|other-file-|[A-Za-z]+-exception-([\d.]+-)?notice")
 # tags of which not all is known
 UNKNOWN = re.compile(r"unknown-identifier|cut-|(OR|AND)-field(-[b-z])?$")
+CUT_FIELD = re.compile(r"cut-(.+)-field(-[b-z])?$")
 EXPRESSION = re.compile(r"expression-(OR|AND|WITH)-(.*?)(-[b-d])?(-dot)?$")
 WHOLE = re.compile(r"(own-)?expression(-b|-end-\d+|-\d-dot)?$")
 SUFFIX = re.compile(r"(-(identifier|field|notice|mention))?(-[b-z])?(-dot)?$")
-TAG = re.compile(r".*-identifier(-[b-z])?(-dot)?$|expression-")
+TAG = re.compile(r".*-(identifier|field)(-[b-z])?(-dot)?$|expression-")
 # marks inside an identifier: they neither end a sentence nor begin a line
 JOINED = re.compile(rb"[a-z0-9+][-.+]+[a-z0-9]", re.IGNORECASE)
 # three of one mark are a separator, which no template sees
@@ -43,6 +44,8 @@ class Match:
         """The licence or the expression; '' where the template names none; None where not all of it is known."""
         if NONE.match(self.id):
             return ""
+        if CUT_FIELD.match(self.id):
+            return self.known
         if UNKNOWN.match(self.id) or self.is_joined:
             return None
         expression = EXPRESSION.match(self.id)
@@ -60,6 +63,24 @@ class Match:
         return name.replace("-OR-", " OR ").replace("-WITH-", " WITH ")
 
     @property
+    def known(self):
+        """The licence of a field that goes on, with an exception that is not known, or where the file shows that the mark is apart; else None."""
+        name = identifier(CUT_FIELD.match(self.id)[1])
+        if "-OR-" in name:
+            return None
+        if self.values[0].lower() == "with":
+            return f"{name} WITH unknown"
+        return name if self.before(self.starts[0]).isspace() else None
+
+    def before(self, place):
+        """The byte of the file before a place; none where there is no file."""
+        try:
+            with open(self.file.encode("utf-8", "surrogateescape"), "rb") as file:
+                return file.read(place)[-1:]
+        except OSError:
+            return b""
+
+    @property
     def expression(self):
         """A whole expression. No dot of one has a blank beside it: such a one ends a sentence, or begins the next line."""
         return re.split(r"\s+\.|\.\s", self.values[0])[0]
@@ -75,8 +96,8 @@ class Match:
 
     @property
     def is_joined(self):
-        """Whether a dot after a tag, or three of one mark in it or after it, belong to it. Only the file tells; without it a dot does."""
-        if not (TAG.match(self.id) or WHOLE.match(self.id)):
+        """Whether a dot after a tag or field, or three of one mark in it or after it, belong to it. Only the file tells; without it a dot of a tag does."""
+        if not (TAG.match(self.id) or WHOLE.match(self.id)) or ("-field" in self.id and self.values):
             return False
         try:
             with open(self.file.encode("utf-8", "surrogateescape"), "rb") as file:

@@ -24,7 +24,8 @@ MATCHES = [
     ("GPL-2.0-identifier", [], "GPL-2.0-only"), ("GPL-2.0-mention", ["2"], "GPL-2.0"), ("expression-OR-MIT", ["ISC"], "ISC OR MIT"),
     ("expression-OR-MIT-b", ["ISC"], "ISC OR MIT"), ("LicenseRef-identifier-c", ["A-B.2"], "LicenseRef-A-B.2"), ("DocumentRef-identifier-b", ["A", "B-C"], "DocumentRef-A:LicenseRef-B-C"),
     ("expression", ["(MIT OR\n Own)", "int"], "(MIT OR Own)"), ("own-expression-end-2", ["LicenseRef-A.B"], "LicenseRef-A.B"), ("expression", ["MIT OR\n LicenseRef-A\n.text", "x"], "MIT OR LicenseRef-A"), ("own-expression-end-2", ["LicenseRef-A.\nint"], "LicenseRef-A"),
-    ("cut-expression-b", ["MIT OR LicenseRef-A", ".B"], None), ("cut-OR-MIT", ["ISC", "AND"], None), ("cut-MIT", ["OR"], None), ("cut-LicenseRef-b", ["A", "-"], None), ("LicenseRef-identifier-c", ["A.B\n.. a"], "LicenseRef-A.B"), ("OR-field-b", ["MIT"], None), ("MIT-field-d", [], "MIT"), ("GPL-2.0-notice-c", ["licensed", "v2"], "GPL-2.0"), ("unknown-identifier", [], None), ("no-grant-mention-b", ["not"], ""), ("other-file-notice", ["lua.h"], ""),
+    ("cut-expression-b", ["MIT OR LicenseRef-A", ".B"], None), ("cut-OR-MIT", ["ISC", "AND"], None), ("cut-MIT", ["OR"], None), ("cut-LicenseRef-b", ["A", "-"], None), ("LicenseRef-identifier-c", ["A.B\n.. a"], "LicenseRef-A.B"), ("OR-field-b", ["MIT"], None), ("cut-GPL-2+-field-c", ["with"], "GPL-2.0-or-later WITH unknown"),
+    ("cut-Apache-2.0-OR-MIT-field", ["with"], None), ("MIT-field-r", [], "MIT"), ("MIT-field-d", [], "MIT"), ("GPL-2.0-notice-c", ["licensed", "v2"], "GPL-2.0"), ("unknown-identifier", [], None), ("no-grant-mention-b", ["not"], ""), ("other-file-notice", ["lua.h"], ""),
     ("Artistic-1.0-Perl-OR-GPL-1.0-or-later-notice", [], "Artistic-1.0-Perl OR GPL-1.0-or-later"), ("GCC-exception-3.1-notice", [], ""),
     ("Apache-2.0-WITH-LLVM-exception-notice", [], "Apache-2.0 WITH LLVM-exception"),
     ("GPL-2.0-with-GCC-exception-identifier", [], "GPL-2.0-with-GCC-exception"),
@@ -33,6 +34,7 @@ MATCHES = [
 MARKS = [
     ("MIT-identifier-dot", [], "MIT.", "Foo", None), ("MIT-identifier-dot", [], "  MIT.", ".Foo", None), ("MIT-identifier-dot", [], "MIT.", "-Foo", None),
     ("MIT-identifier-dot", [], "MIT\n.", "text", "MIT"), ("MIT-identifier-dot", [], "MIT\n.", ". a comment", "MIT"), ("MIT-identifier-dot", [], "MIT.", "", "MIT"),
+    ("cut-MIT-field", ["-"], "MIT-", "Own", None), ("cut-ISC-field-c", ["-"], "ISC -", " see", "ISC"), ("MIT-field", [], "MIT", ".Foo", None), ("MIT-field", [], "MIT", ". Foo", "MIT"), ("MIT-field", [], "MIT", "---Own", None), ("MIT-field-k", ["License"], "License-Expression: MIT\nLicense", "-File", "MIT"),
     ("MIT-identifier-dot", [], "MIT.", "\nint x;", "MIT"), ("GPL-2.0+-identifier-dot", [], "GPL-2.0+.", "1", None),
     ("GPL-2.0-only-identifier-dot", [], "GPL-2.0-only\n.", "text", "GPL-2.0-only"), ("expression-OR-MIT-dot", ["ISC"], "ISC OR MIT.", "Foo", None),
     ("expression-OR-MIT-dot", ["ISC"], "ISC OR MIT\n.", "text", "ISC OR MIT"), ("expression-OR-MIT-c-dot", ["ISC"], "ISC OR (MIT.", "Foo", None),
@@ -53,6 +55,7 @@ FIELDS = [
     (["LGPL-2.1"], "LGPL-2.1", ["LGPL-2.1"]), (["MIT OR Zlib", "ISC"], "Expat or Zlib, and ISC", ["ISC", "MIT", "Zlib"]),
     (["(GPL-2.0+ WITH Linux-syscall-note) OR MIT"], "GPL-2+ with Linux syscall note exception or Expat", ["GPL-2.0+", "MIT"]),
     (["Apache-2.0 WITH LLVM-exception"], "Apache-2.0 with LLVM exception", ["Apache-2.0"]), (["unknown"], "unknown", ["NOASSERTION"]),
+    (["GPL-2.0-or-later WITH unknown"], "GPL-2+ with unknown exception", ["GPL-2.0-or-later"]),
     (["BSD", "public-domain"], "BSD and public-domain", ["LicenseRef-BSD", "LicenseRef-public-domain"]),
 ]
 # the answers of files, and the globs of each

@@ -1,35 +1,56 @@
 #!/usr/bin/env python3
-"""Writes examples/TEMPLATES.md, the page that lists each template of the starter set with an example: listing.py"""
+"""Writes examples/TEMPLATES.md, the page that lists each template of the starter set with what it describes and a real example: listing.py
+
+The examples are in seen.tsv: a template, a project, a file of it and the words there (`scripts/trial/forms.py --examples`).
+"""
 import collections
+import functools
 import os
 import re
 import textwrap
 
+import fields
 import starter
+import tags
 
 PAGE = os.path.join(starter.EXAMPLES, "TEMPLATES.md")
-# a project that has the form, by its name
+# a real example of each template of which one is known
 SEEN = os.path.join(os.path.dirname(os.path.abspath(__file__)), "seen.tsv")
 RULE = re.compile(r"<<(?:var;.*?|beginOptional|endOptional)>>", re.S)
 KIND = re.compile(r"-(identifier|field|notice|mention)(-[b-z])?(-dot)?$")
-# they are cut at more words, too
-CUT = {"cut-LicenseRef", "cut-DocumentRef", "cut-LicenseRef-b", "cut-DocumentRef-b"}
 # letters of a text that are shown
 MOST_LETTERS = 160
+# a family of templates is one frame with other names and versions of licences
+NAME = re.compile(r"(GNU )?(Affero |Lesser |Library or Lesser |Library |Free Documentation |Mozilla |Eclipse |Common |Academic |Apache Software |Apache |Artistic |PHP |MIT |BSD |PostgreSQL |"
+                  r"GNU General |General |Common Development and Distribution )+(Public |Free )?Licen[cs]e|GNU A?L?GPL|[AL]*GPL(v[\d.]+\+?)?|MIT-0|MIT|BSD|Apache|MPL|AFL|CDDL|EPL|GFDL|WTFPL|Ruby|Perl|Python|"
+                  r"simplified|modified|new|Lesser|Affero|released|distributed|covered|published|placed|licensed", re.IGNORECASE)
 HEAD = """\
 # The templates of the starter set
 
 Made by `python3 scripts/templates/listing.py`. After each name is a text that the template
 describes: its beginning, with all optional parts and with the text that is published in place of
-each variable. A project in whose files it was found follows in parentheses, if one was. What the
-endings of names mean is in [the manual](../docs/MANUAL.md#where-templates-come-from).
+each variable. Then a real example: a project in whose files it was found, a file, and the words
+there (`scripts/trial/forms.py --examples`). Where the same words with another name or version are a
+template, too, and were found, that is the example. What the endings of names mean is in [the
+manual](../docs/MANUAL.md#where-templates-come-from).
 """
 SECTIONS = [
     ("text", "Texts", "Whole texts, or as much of them as tells them from others."),
-    ("notice", "Notices", "Short notices, and sentences that give a licence. Each was found in two unrelated projects, that of FreeType in files that another one took over; libpng's own notice, in libpng alone, is not in the set. Where a name and a version fill a frame "
-     "(`licensed under the terms of NAME version 2`, and all fields), the frame was, and so was the name in its spelling (`scripts/trial/forms.py`), but for the field AFL-3.0."),
+    ("notice", "Notices", "Short notices, and sentences that give a licence. Each was found in two unrelated projects, that of FreeType in files that another one took over; libpng's own notice, in libpng alone, is not in the set. "
+     "Where a name and a version fill a frame (`licensed under the terms of NAME version 2`, and all fields), the frame was, and so was the name in its spelling (`scripts/trial/forms.py`), but for the field AFL-3.0. "
+     "`GPL-2.0-or-later-notice-i` and its like, which no project was found to have, keep what they describe from being `GPL-2.0-only`. Longer names of fields than one in use are those that SPDX publishes."),
     ("no-grant", "Words that give no licence", "They keep a sentence from being called a grant."),
     ("mention", "Mentions", "Names in words, in `examples/mentions`."),
+]
+# the kinds of tags, and what each describes
+TAGS = [
+    (r"[A-Z].*(?<!Ref)-identifier", "NAME-identifier", "`SPDX-License-Identifier: NAME`"), (r"(?!Lic|Doc).*-identifier-b", "NAME-identifier-b", "the same in parentheses"),
+    (r"(?!Lic|Doc).*-identifier-dot", "NAME-identifier-dot", "the same, and a dot"), (r"LicenseRef-identifier(-[b-z])?", "LicenseRef-identifier, -b ..", "an identifier of one's own, of one, two .. words"),
+    (r"DocumentRef-identifier(-[b-z])?", "DocumentRef-identifier, -b ..", "one of another document, `DocumentRef-A:LicenseRef-B`"), (r"cut-(?!OR|AND|WITH|Lic|Doc).*(?<!-[bc])", "cut-NAME", "a tag that goes on after its first identifier, as `MIT OR Own`"),
+    (r"cut-(?!OR|AND|WITH|Lic|Doc).*-[bc]", "cut-NAME-b, -c", "the same with a parenthesis after it, as `(MIT) OR Own`"), (r"cut-(Lic|Doc).*", "cut-LicenseRef, -b, cut-DocumentRef, -b", "an identifier of one's own that goes on"), ("unknown-identifier", "unknown-identifier", "a tag that begins otherwise"),
+    (r"expression-OR-.*(?<!-c)(?<!-dot)", "expression-OR-NAME", "`SPDX-License-Identifier: ISC OR NAME`"), (r"expression-AND-.*(?<!-c)(?<!-dot)", "expression-AND-NAME", "`ISC AND NAME`"), (r"expression-WITH-.*(?<!-dot)", "expression-WITH-NAME", "`GPL-2.0-only WITH NAME`"),
+    (r"expression-.*-c", "expression-OR-NAME-c", "the last identifier in parentheses, as `ISC OR (GPL-2.0)`"), (r"expression-.*-dot", "expression-OR-NAME-dot", "an expression, and a dot"),
+    (r"cut-(OR|AND|WITH)-.*", "cut-OR-NAME", "an expression that goes on, as `ISC OR NAME-Own`"),
 ]
 
 
@@ -55,7 +76,7 @@ def original_of(template):
 def kind_of(name):
     if name.startswith("no-grant"):
         return "no-grant"
-    if re.match("cut-|expression-", name):
+    if re.match("cut-(?!.*-field)|expression-", name):
         return "expression"
     kind = KIND.search(name)
     return kind[1] if kind else "text"
@@ -77,17 +98,65 @@ def wrapped(text, indent=""):
     return textwrap.fill(text, 100, subsequent_indent=indent, break_long_words=False, break_on_hyphens=False)
 
 
-def projects():
-    """A project for each form of which one is known."""
+def examples():
+    """The project, the file and the words of each template of which an example is known."""
     with open(SEEN, encoding="utf-8") as file:
-        return dict(line.rstrip("\n").split("\t") for line in file)
+        rows = [line.rstrip("\n").split("\t") for line in file]
+    return {row[0]: row[1:] for row in rows}
 
 
-def item(name, template, seen):
-    text = original_of(template)
-    shown = text if len(text) <= MOST_LETTERS else text[:MOST_LETTERS].rsplit(" ", 1)[0] + " .."
-    project = f" (in `{seen[name]}`)" if name in seen else ""
-    return wrapped(f"- `{name}`: {re.sub(r'([*_<>`|])', lambda it: chr(92) + it[1], shown)}{project}", "  ")
+def shown(text):
+    """A text of Markdown that is not too long."""
+    text = text if len(text) <= MOST_LETTERS else text[:MOST_LETTERS].rsplit(" ", 1)[0] + " .."
+    return re.sub(r"([*_<>`|\\\[\]])", r"\\\1", text)
+
+
+@functools.cache
+def frame_of(template):
+    """A template with names and versions of licences left out, and without what their variables describe and what is optional about them."""
+    text = re.sub(r'<<var;name="(\w+)".*?>>', r"<\1>", " ".join(template.split()), flags=re.S)
+    text = re.sub(r'<<beginOptional>>[^\w<]*(<<beginOptional>>"<<endOptional>>)?\w*(<<beginOptional>>"<<endOptional>>)?[^\w<]*<<endOptional>>', "", NAME.sub("NAME", text))
+    return re.sub(r"(?i)\W*\bv?\d[\d.]*", "", re.sub(r"(?i)lesser |affero |,? ?<version>", "", text)).strip()
+
+
+def place(row):
+    """A project, and a file of it where that is known."""
+    return f" In `{row[0]}`" + (f" (`{row[1]}`)" if len(row) > 1 else "")
+
+
+def example_of(name, template, found, seen):
+    """A real example of a template, or of one that is the same with another name. Of some the project alone is known."""
+    family = [name] + [it for it in found if frame_of(found[it]) == frame_of(template)]
+    real = next((it for it in family if len(seen.get(it, ())) == 3), None)
+    project = place(seen[name]) + "." if name in seen and real != name else ""
+    if real is None:
+        return project
+    return f"{project}{place(seen[real])}{'' if real == name else f', `{real}`'}: {shown(seen[real][2])}"
+
+
+def item(name, template, found, seen):
+    return wrapped(f"- `{name}`: {shown(original_of(template))}.{example_of(name, template, found, seen)}", "  ")
+
+
+def kinds(seen):
+    """A line for each kind of tag."""
+    for pattern, title, text in TAGS:
+        real = next((it for it in sorted(seen) if re.fullmatch(pattern, it) and len(seen[it]) == 3 and "-field" not in it), None)
+        yield wrapped(f"- `{title}`: {text}." + (f"{place(seen[real])}, `{real}`: {shown(seen[real][2])}" if real else ""), "  ")
+
+
+def made_fields(made, seen):
+    """A line for each frame of the fields that fields.py makes, and one of those that are cut; then the names of all of them."""
+    names_of_made = fields.names()
+    for title, text in [*((f"NAME-field{suffix}", text) for suffix, text in tags.SHORT_FIELDS.items()), ("NAME-field", tags.FIELD), ("NAME-field-r", fields.WITH_FILE)]:
+        these = {text.format(name) for name in names_of_made + fields.OF_R}
+        alike = [it for it in sorted(seen) if len(seen[it]) == 3 and made.get(it) in these]
+        real = seen[alike[0]] if alike else None
+        yield wrapped(f"- `{title}`: {shown(original_of(text.format('NAME')))}." + (f"{place(real)}, `{alike[0]}`: {shown(real[2])}" if real else ""), "  ")
+    real = next((it for it in sorted(seen) if re.match("cut-.*-field", it)), None)
+    yield wrapped("- `cut-NAME-field`, `-b` ..: each of these where the name goes on, as `MIT-Own`." + (f"{place(seen[real])}, `{real}`: {shown(seen[real][2])}" if real else ""), "  ")
+    yield "\nNAME is\n"
+    yield wrapped(", ".join(sorted(set(names_of_made))))
 
 
 def names(kind, found, pattern):
@@ -96,21 +165,17 @@ def names(kind, found, pattern):
 
 
 def page():
-    found, seen = read(), projects()
+    found, seen = read(), examples()
     lines = [HEAD]
     for kind, title, sentence in SECTIONS:
-        lines += [f"## {title}\n", wrapped(sentence) + "\n", "\n".join(item(*it, seen) for it in sorted(found[kind].items())) + "\n"]
-    lines += ["## Tags\n", "`NAME-identifier`: `SPDX-License-Identifier: NAME`, such as `SPDX-License-Identifier: MIT`. NAME is\n",
-              names("identifier", found, KIND) + "\n"]
-    lines += ["## Fields\n", wrapped("`NAME-field`, `-b` ..: a field of a manifest or header, such as `\"license\": \"MIT\"`, `License: GPL-2+`, "
-                                     "`license = \"ISC\"`, `__license__ = \"BSD\"`. `OR-field`: one with two identifiers. NAME is") + "\n",
-              names("field", found, KIND) + "\n"]
-    implied = {f"cut-{KIND.sub('', it)}{letter}" for it in found["identifier"] for letter in ("", "-b")} - CUT | {it for it in found["expression"] if it.endswith(("-c", "-dot"))}
-    lines += ["## Expressions\n", wrapped("`expression-OR-MIT`: `SPDX-License-Identifier: ISC OR MIT`; `cut-OR-MIT`: the same where the tag goes on, as "
-                                          "in `ISC OR MIT-Own`; `cut-MIT`: a tag that goes on after its first identifier, as `MIT OR Own`. There is such a "
-                                          "one of each tag above, and `-b` of one in parentheses. With `-c` at the end: the last identifier is in parentheses, as in `ISC OR (GPL-2.0)`. With "
-                                          "`-dot`, as each tag above has it too: a dot follows, as in `MIT.Foo`. The other names are") + "\n",
-              names("expression", {"expression": found["expression"].keys() - implied}, "(?!)") + "\n"]
+        lines += [f"## {title}\n", wrapped(sentence) + "\n", "\n".join(item(*it, found[kind], seen) for it in sorted(found[kind].items())) + "\n"]
+    made = dict(fields.templates())
+    by_hand = {it: text for it, text in found["field"].items() if it not in made}
+    lines += ["## Fields\n", "Fields of manifests and headers. Of each name there are these:\n", "\n".join(made_fields(made, seen)) + "\n"]
+    lines += ["Other fields:\n", "\n".join(item(*it, by_hand, seen) for it in sorted(by_hand.items())) + "\n"]
+    lines += ["## Tags\n", "\n".join(kinds(seen)) + "\n", "NAME of an identifier is\n", names("identifier", found, KIND) + "\n"]
+    ends = sorted({re.sub("^(expression|cut)-(OR|AND|WITH)-|(-[b-d])?(-dot)?$", "", it) for it in found["expression"] if re.match("expression-", it)})
+    lines += ["NAME of the end of an expression is\n", wrapped(", ".join(ends)) + "\n"]
     return "\n".join(lines)
 
 

@@ -3,8 +3,9 @@
 
 - `check` says `yes` of it, with examples/words and without.
 - Its original text is found as a comment in each of the styles below, among all templates.
-- The templates of tags and fields are those that tags.py makes of the lists beside it, and expressions.py, and there are no others; those of
-  examples/expressions are those of whole_expressions.py.
+- The templates of tags and fields are those that tags.py, fields.py and expressions.py make of the lists beside them, and there are no others; those
+  of examples/expressions are those of whole_expressions.py.
+- In fields of manifests, headers and copyright files each name is reported as itself, if at all, and one that goes on after it as cut.
 - Tags that hold an expression are reported by one template each, with the value that is expected; random ones whole, or by a template that says that
   they are cut; by examples/expressions whole.
 - Sentences that give a licence, and those that only name one, are reported by what is expected, without the mentions and with them.
@@ -18,6 +19,7 @@ import subprocess
 import sys
 import tempfile
 
+import fields
 import harness
 import listing
 import random_tags
@@ -161,10 +163,40 @@ SENTENCES = [
     ("License-Expression: MIT\n# License-File: LICENSE", ["MIT"], []),
     ("License-Expression: MIT-CMU\n# License-File: LICENSE", [], []),
     ("License-Expression: MIT OR Own\n# Classifier: Typing :: Typed", ["OR"], []),
+    ("\"license\": \"MIT-CMU\",", ["MIT-CMU"], []),
+    ("\"license\": \"GPL-2.0-with-classpath-exception\",", ["GPL-2.0-with-classpath-exception"], []),
+    ("license = \"BSD-3-Clause-Clear\"", ["BSD-3-Clause-Clear"], []),
+    ("license = \"Python-2.0.1\"", ["Python-2.0.1"], []),
+    ("<metadata_license>CC0-1.0</metadata_license>", ["CC0-1.0"], []),
+    ("\"license\": \"MIT-Own\",", ["cut-MIT"], []),
+    ("\"license\": \"GPL-2.0-with-own-exception\",", ["cut-GPL-2.0"], []),
+    ("license = \"Apache-2.0 WITH LLVM-exception\"", ["cut-Apache-2.0"], []),
+    ("license = \"MIT OR Apache-2.0 OR Zlib\"", ["cut-MIT-OR-Apache-2.0"], []),
+    ("license = \"Apache-2.0/MIT-0\"", ["cut-Apache-2.0-OR-MIT"], []),
+    ("License: GPL-2.1", ["cut-GPL-2"], []),
+    ("License: GNU GPL-Own", ["cut-GPL"], []),
+    ("License: BSD-style", ["cut-BSD"], []),
+    ("License: GPL-2+ with OpenSSL exception", ["cut-GPL-2+"], []),
+    ("License: MIT + file LICENSE", ["MIT"], []),
+    ("License: GPL-3 + file LICENSE", ["GPL-3"], []),
+    ("License: MIT. Author: A. Author", ["MIT"], []),
+    ("License :: OSI Approved :: MIT No Attribution License (MIT-0)", [], []),
     ("the new BSD limits", [], []),
     ("emit limit transmit", [], []),
     ("its GPL code", [], []),
 ]
+
+# fields as manifests and headers have them, and what a name may go on with that no template knows
+FIELDS = {
+    "package.json": '"license": "{}",', "composer.json": '"license": ["{}"],', "Cargo.toml": 'license = "{}"', "pyproject.toml": 'license = {{ text = "{}" }}',
+    "METADATA": "License: {}\nAuthor: A. Author", "METADATA 2.4": "License-Expression: {}\nLicense-File: LICENSE", "setup.py": "license='{}',",
+    "module": '__license__ = "{}"', "gemspec": "s.license = '{}'", "gemspec, many": "s.licenses = ['{}']", "pom.xml": "<license>\n  <name>{}</name>",
+    "AppStream": "<project_license>{}</project_license>", "DESCRIPTION": "License: {}\nEncoding: UTF-8", "debian/copyright": "License: {}\n This is free.",
+    "cabal": "license:             {}\nlicense-file:        LICENSE", "spec": "License:        {}\nURL:  https://example.org", "opam": 'license: "{}"',
+    "meson.build": "license: '{}',", "docstring": ":license: {}\n:copyright: A. Author", "comment": "@license {}\n@author A. Author", "heading": "License\n=======\n\n{}\n",
+}
+ENDS = ["-Own", "_own", ".77", ".7b", " with an exception"]
+ENDS_IN_QUOTES = [".Own", ".Own-1"]
 
 # what is in a tag, the template that is to be reported, and the value of its first variable
 TAGS = [
@@ -275,11 +307,10 @@ def not_found(program, both, style):
 
 
 def not_made():
-    """How the templates of tags and fields differ from those that tags.py and expressions.py make."""
+    """How the templates of tags and fields differ from those that tags.py, fields.py and expressions.py make."""
     with tempfile.TemporaryDirectory() as folder:
-        for options in (["--list", f"{HERE}/tags.txt"], ["--field", "--list", f"{HERE}/fields.txt"]):
-            subprocess.run([sys.executable, f"{HERE}/tags.py", *options, folder], check=True)
-        subprocess.run([sys.executable, f"{HERE}/expressions.py", folder], check=True)
+        for script in (["tags.py", "--list", f"{HERE}/tags.txt"], ["fields.py"], ["expressions.py"]):
+            subprocess.run([sys.executable, f"{HERE}/{script[0]}", *script[1:], folder], check=True)
         made = read_templates(folder)
     kept = {id: text for id, text in read_templates(starter.GRANTS).items() if re.search("-(identifier|field)(-[b-z])?(-dot)?$|^expression-|^cut-", id)}
     kept = {id: text for id, text in kept.items() if re.search("-identifier|^expression-|^cut-", id) or not BY_HAND.search(text)}
@@ -319,6 +350,28 @@ def wrongly_called(program, both):
     return faults
 
 
+def wrong_fields(program, folder):
+    """The fields in which something else is reported than the name that is there, or than that it is cut where the name goes on."""
+    expected = {}
+    for kind, field in FIELDS.items():
+        ends = ENDS + (ENDS_IN_QUOTES if re.search("['\"]{}['\"]", field) else [])
+        for number, name in enumerate(fields.names()):
+            expected[kind, name] = field.format(name), name
+            # one of the ends for each name, each of them for many
+            expected[kind, name + ends[number % len(ends)]] = field.format(name + ends[number % len(ends)]), f"cut-{name}"
+    faults = []
+    with tempfile.TemporaryDirectory() as at:
+        paths = {f"{at}/{number}": it for number, it in enumerate(expected)}
+        for path, it in paths.items():
+            with open(path, "w", encoding="utf-8") as file:
+                file.write(expected[it][0] + "\n")
+        done = subprocess.run([program, "scan", "--templates", folder, "--", *paths], stdout=subprocess.PIPE, check=False, text=True)
+    for path, id in sorted({tuple(line.split("\t")[:2]) for line in done.stdout.splitlines() if line[0] != "\t"}):
+        if SUFFIX.sub("", id) != expected[paths[path]][1]:
+            faults.append(f"{paths[path]}: reported as {id}")
+    return faults
+
+
 def costly():
     """The templates of grants that are looked for by a short text, and those with a variable without a bound."""
     texts = {id: listing.texts(text) for id, text in read_templates(starter.GRANTS).items()}
@@ -343,6 +396,7 @@ def main():
         tally.add("expressions, whole", wrongly_reported(program, starter.EXPRESSIONS, WHOLE_TAGS))
         tally.add("random expressions, whole", random_tags.trial(program, starter.EXPRESSIONS, RANDOM_WHOLE_TAGS, 40, 1, whole=True)[0])
         tally.add("called by another", wrongly_called(program, both))
+        tally.add("fields", wrong_fields(program, starter.GRANTS))
         for style in STYLES:
             tally.add(f"comments, {style}", not_found(program, both, style))
         print(f"{len(read_templates(both))} templates")

@@ -3,7 +3,7 @@
 
 Each template goes to OUT/NAME-identifier.template.txt and describes `SPDX-License-Identifier: IDENTIFIER`. With --field it goes
 to OUT/NAME-field.template.txt and describes the field of a manifest or header: `"license": "IDENTIFIER"`, `license = "IDENTIFIER"`,
-`:license: IDENTIFIER`. An identifier of less than eight letters has six templates, NAME-field, NAME-field-b ..: for it alone a file
+`:license: IDENTIFIER`. An identifier of less than eight letters has seven templates, NAME-field, NAME-field-b ..: for it alone a file
 would be searched for the word `license`, which is frequent. NAME is the identifier, with `-` for blanks and without parentheses. A file
 of that name is written anew.
 
@@ -34,23 +34,24 @@ def optional(text):
 
 # a quote, underscores, a colon or an equals sign, the end of a tag of XML, a bracket, a quote
 FIELD = "license " + "".join(map(optional, ['"', "__", ":", "=", ">", "[", '"'])) + "{}\n"
-# the same in forms that have a text of their own
-SHORT_FIELDS = [
-    f"license: {optional('[')}{optional(chr(34))}{{}}\n",
-    f"license\": {optional('[')}{optional(chr(34))}{{}}\n",
-    f"license = {optional('[')}{optional(chr(34))}{{}}\n",
-    "license__ = \"{}\n",
-    "license {}\n",
-    "license \"{}\n",
-]
+# the same in forms that have a text of their own, by the ends of the templates' names
+SHORT_FIELDS = {
+    "": f"license: {optional('[')}{optional(chr(34))}{{}}\n",
+    "-b": f"license\": {optional('[')}{optional(chr(34))}{{}}\n",
+    "-c": f"license = {optional('[')}{optional(chr(34))}{{}}\n",
+    "-d": "license__ = \"{}\n",
+    "-e": "license {}\n",
+    "-f": "license \"{}\n",
+    "-x": "license>{}\n",
+}
 # a template is found by its longest text: by the identifier, if that is longer than `license`
 LONG_IDENTIFIER = 8
 
 
 def fields_of(identifier):
     """The ends of the names of the templates of a field, and their texts."""
-    texts = [FIELD] if len(identifier) >= LONG_IDENTIFIER else SHORT_FIELDS
-    return [("-field" + LETTERS[number], text) for number, text in enumerate(texts)]
+    texts = {"": FIELD} if len(identifier) >= LONG_IDENTIFIER else SHORT_FIELDS
+    return [("-field" + letter, text) for letter, text in texts.items()]
 
 
 def read_list(path):

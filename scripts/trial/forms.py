@@ -1,12 +1,14 @@
 #!/usr/bin/env python3
-"""Counts the projects in which each form of the starter set is found: forms.py FOLDER .. --licscan PROGRAM [--few N]
+"""Counts the projects in which each form of the starter set is found: forms.py FOLDER .. --licscan PROGRAM [--few N] [--examples FILE]
 
 What is below FOLDER/NAME is the project NAME, as packages.py lays it out. Below a folder such as `vendor` or `node_modules` it is the project that
 the next folder names; a file that a build tool copies (`config.guess`) is the tool's. Files of the same bytes count once; those that say no
 licence, copyright, warranty or permission are left out. A template is found where it is reported, so not where a longer one is.
 
 Some forms are a frame that any name fills: `licensed under the terms of NAME version 2`, `License: NAME`. Where such a form is found in less than
-two projects, its name is looked for alone. Each line has a template, the number of projects, two of them, and the same of the name. Status: 0 if each form, or its name, is in two projects, else 1.
+two projects, its name is looked for alone. Each line has a template, the number of projects, two of them, and the same of the name. With --examples
+FILE has a line for each template that is found, mentions and tags too: its project, a file of it, and the words there; lines of others stay.
+Status: 0 if each form, or its name, is in two projects, else 1.
 """
 import argparse
 import collections
@@ -39,6 +41,7 @@ FRAME = re.compile(rf'((<<var;name="verb".*?>> |licensed |distributed |distribut
 END = re.compile(r'\s*(<<beginOptional>> ?[,(v].*|<<var;name="(version|later|next)".*|,? version .*|as published .*|(?<=\s)(v\d )?or later|\(>= .*|'
                  r'(?<=\s)(v\d )?\(L?GPLv\d\)|(?<=\s)v\d|\(the "License"\).*|\. See LICENSE|that can be found .*)?\s*$', re.DOTALL | re.IGNORECASE)
 MAX_BYTES = 1_000_000
+MOST_LETTERS = 160
 FILES_OF_A_RUN = 500
 
 
@@ -73,8 +76,8 @@ def files_of(folders):
 
 
 def projects_of(program, texts, files):
-    """The projects in which each of these templates is reported."""
-    projects, paths = collections.defaultdict(set), list(files)
+    """The projects in which each of these templates is reported, each with a file and the bytes there."""
+    projects, paths = collections.defaultdict(dict), list(files)
     with tempfile.TemporaryDirectory() as folder:
         for id, text in texts.items():
             with open(os.path.join(folder, id + starter.ENDING), "w", encoding="utf-8") as file:
@@ -84,18 +87,43 @@ def projects_of(program, texts, files):
             done = subprocess.run(words, stdout=subprocess.PIPE, stderr=subprocess.DEVNULL, check=False)
             for fields in (line.split("\t") for line in done.stdout.decode("utf-8", "replace").splitlines()):
                 if fields[0] in files:
-                    projects[fields[1]].add(files[fields[0]])
+                    projects[fields[1]].setdefault(files[fields[0]], (fields[0], int(fields[4]), int(fields[5])))
     return projects
+
+
+def templates(folder):
+    """All templates of a folder."""
+    found = {}
+    for name in sorted(os.listdir(folder)):
+        if name.endswith(starter.ENDING):
+            with open(os.path.join(folder, name), encoding="utf-8") as file:
+                found[name.removesuffix(starter.ENDING)] = file.read()
+    return found
 
 
 def forms():
     """The templates of texts, notices and fields."""
-    found = {}
-    for name in sorted(os.listdir(starter.GRANTS)):
-        if name.endswith(starter.ENDING) and not OTHERS.match(name.removesuffix(starter.ENDING)):
-            with open(os.path.join(starter.GRANTS, name), encoding="utf-8") as file:
-                found[name.removesuffix(starter.ENDING)] = file.read()
-    return found
+    return {id: text for id, text in templates(starter.GRANTS).items() if not OTHERS.match(id)}
+
+
+def words_of(path, start, end):
+    """The words of a match, without the marks of a comment before its lines."""
+    with open(path, "rb") as file:
+        text = file.read()[start:end].decode("utf-8", "replace")
+    words = " ".join(re.sub(r"(?m)^\s*(?://+|#+|\*+(?!/)|;+|--|dnl\b|%+|\.\\\")?", "", text).split())
+    return words if len(words) <= MOST_LETTERS else words[:MOST_LETTERS].rsplit(" ", 1)[0] + " .."
+
+
+def write_examples(path, found, folders):
+    """A line for each template that is found: its project with the shortest file name, the file, and the words. Lines of other templates stay."""
+    with open(path, encoding="utf-8") as file:
+        rows = dict(line.rstrip("\n").split("\t", 1) for line in file)
+    for id, projects in found.items():
+        project, (name, start, end) = min(projects.items(), key=lambda it: (len(it[1][0]), it[0]))
+        top = next(it for it in folders if name.startswith(os.path.join(it, "")))
+        rows[id] = "\t".join([project, os.path.relpath(name, top), words_of(name, start, end)])
+    with open(path, "w", encoding="utf-8") as file:
+        file.writelines(f"{id}\t{row}\n" for id, row in sorted(rows.items()))
 
 
 def name_of(text):
@@ -112,8 +140,12 @@ def main():
     parser.add_argument("folders", nargs="+")
     parser.add_argument("--licscan", metavar="PROGRAM", required=True)
     parser.add_argument("--few", type=int, metavar="N", help="forms of at most N projects alone")
+    parser.add_argument("--examples", metavar="FILE")
     asked = parser.parse_args()
     files, texts = files_of(asked.folders), forms()
+    if asked.examples:
+        found = projects_of(asked.licscan, templates(starter.GRANTS) | templates(starter.MENTIONS), files)
+        write_examples(asked.examples, found, asked.folders)
     found = projects_of(asked.licscan, texts, files)
     names = {id: name_of(text) for id, text in texts.items() if len(found[id]) < 2 and FRAME.match(text)}
     named = projects_of(asked.licscan, names, files)

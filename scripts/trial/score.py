@@ -78,7 +78,7 @@ def said_by_licscan(program, rules, folder, names):
             last = re.match("(?:expression|cut)-(OR|AND)-(.*?)(-[b-d])?(-dot)?$", id)
             grants.setdefault(name, set()).update(licences.names_of(fields[4]) | (licences.names_of(last[2]) if last else set()))
         elif fields[1] == "next" and re.match("cut-(?!OR|AND|WITH|LicenseRef|DocumentRef)", id):
-            grants.setdefault(name, set()).update(licences.names_of(id.removeprefix("cut-")))
+            grants.setdefault(name, set()).update(licences.names_of(licences.SUFFIX.sub("", id.removeprefix("cut-"))))
     said = {name: grants.get(name) or mentions.get(name, set()) for name in names}
     return {name: {one for one in it if not any(one == licences.family_of(other) != other for other in it)} for name, it in said.items()}, grants
 

@@ -179,6 +179,7 @@ fn report_refusal<E: Sink>(
 fn write_each<Rt: Files, R: Source, W: Sink, E: Sink>(
     rt: &Rt,
     alloc: Global,
+    memory: &mut Memory,
     files: FileList<'_>,
     input: &mut R,
     out: &mut W,
@@ -204,12 +205,11 @@ fn write_each<Rt: Files, R: Source, W: Sink, E: Sink>(
         has_line: false,
         is_refused: false,
     };
-    let mut memory = Memory::new(alloc);
     let all = files.names.len();
     for done in 0..all {
         let name = files.names[done];
         files.progress.show(alloc, err, done, all);
-        let answer = write_file(rt, &mut memory, name, input, out, work)?;
+        let answer = write_file(rt, memory, name, input, out, work)?;
         written = with_one_more(written, answer);
         report_refusal(alloc, name, files, err, answer)?;
     }
@@ -241,7 +241,8 @@ pub fn write_files<Rt: Files, R: Source, W: Sink, E: Sink>(
     // It stops where a write failed, once, or where memory ran out.
     ensures writes { StopsForWrites result (W.failed out.old) (W.failed out.new) }
 {
-    let written = write_each(rt, alloc, files, input, out, err, work);
+    let mut memory = Memory::new(alloc);
+    let written = write_each(rt, alloc, &mut memory, files, input, out, err, work);
     files.progress.clear(err, files.names.len());
     written
 }

@@ -3,6 +3,7 @@
 
 mod faults;
 mod files;
+mod lists;
 mod program;
 mod progress;
 mod status;
