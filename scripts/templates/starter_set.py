@@ -177,6 +177,8 @@ SENTENCES = [
     ("License: GNU GPL-Own", ["cut-GPL"], []),
     ("License     :  BSD-style (see the file LICENSE)", ["BSD-style"], []),
     ("License: BSD-variant", ["cut-BSD"], []),
+    ("License: BSD 3-Clause License", ["BSD-3-Clause"], []),
+    ("License: BSD 2-Clause", ["BSD-2-Clause"], []),
     ("License: GPL-2+ with OpenSSL exception", ["cut-GPL-2+"], []),
     ("License: MIT + file LICENSE", ["MIT"], []),
     ("License: GPL-3 + file LICENSE", ["GPL-3"], []),
