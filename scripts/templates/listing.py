@@ -38,7 +38,7 @@ SECTIONS = [
     ("text", "Texts", "Whole texts, or as much of them as tells them from others."),
     ("notice", "Notices", "Short notices, and sentences that give a licence. Each was found in two unrelated projects, that of FreeType in files that another one took over; libpng's own notice, in libpng alone, is not in the set. "
      "Where a name and a version fill a frame (`licensed under the terms of NAME version 2`, and all fields), the frame was, and so was the name in its spelling (`scripts/trial/forms.py`), but for the field AFL-3.0. "
-     "`GPL-2.0-or-later-notice-i` and its like, which no project was found to have, keep what they describe from being `GPL-2.0-only`. Longer names of fields than one in use are those that SPDX publishes."),
+     "`GPL-2.0-or-later-notice-i`, `-m` and their like, which no project was found to have, keep what they describe from being `GPL-2.0-only`. Longer names of fields than one in use are those that SPDX publishes."),
     ("no-grant", "Words that give no licence", "They keep a sentence from being called a grant."),
     ("mention", "Mentions", "Names in words, in `examples/mentions`."),
 ]
