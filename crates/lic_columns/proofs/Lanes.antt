@@ -1,5 +1,5 @@
 -- Vector operations, lane by lane.
-use Rattle.std.proofs.Common.{◌≡◌, ℕ, zero, suc, ◌+◌, ◌-◌, ◌*◌, ◌/◌, ◌%◌, ◌^◌, ◌<◌, Bool, true, false, cond, ◌&&◌, inl, inr, eqb, List, [], ◌∷◌, map, length, get_or, replicate, bit_and, refl, sym, ap, ◌∙◌, subst, arith, w8, Fits, eqb-true}
+use Rattle.std.proofs.Common.{◌≡◌, ℕ, zero, suc, ◌+◌, ◌-◌, ◌*◌, ◌/◌, ◌%◌, ◌^◌, ◌<◌, ◌≤◌, Bool, true, false, cond, ◌&&◌, inl, inr, eqb, List, [], ◌∷◌, map, length, get_or, replicate, bit_and, refl, sym, ap, ◌∙◌, subst, arith, w8, Fits, eqb-true}
 use Rattle.std.proofs.lemmas.List.{get_or-map, length-map, ext_get_or}
 use Rattle.std.proofs.lemmas.Bool.{cases_eq, and_parts}
 use Rattle.std.proofs.lemmas.Nat.{and_le_r}
@@ -87,13 +87,15 @@ tops p [] = refl
 tops p (x ∷ xs) = ap (λ b. b ∷ map (top 7) (map (λ x. all_ones (p x)) xs)) (top_is (p x)) ∙ ap (λ bs. p x ∷ bs) (tops p xs)
 
 -- the mask of a comparison
+pub mask_of : (p : ℕ → Bool) (xs zs : List ℕ) → length xs ≤ 64 → zs ≡ map (λ x. all_ones (p x)) xs
+    → mask_l (map (top 7) zs) % 2 ^ 64 ≡ mask_l (map p xs)
+mask_of p xs zs few e =
+    ap (λ l. mask_l l % 2 ^ 64) (ap (map (top 7)) e ∙ tops p xs) ∙ mask_l-mod (map p xs) 64 (omega (arith, few, length-map xs p))
+
 pub IsMask-compared : (p : ℕ → Bool) (xs zs : List ℕ) → length xs ≡ 64 → zs ≡ map (λ x. all_ones (p x)) xs
     → IsMask (mask_l (map (top 7) zs) % 2 ^ 64) (map p xs)
 IsMask-compared p xs zs long e =
-    let flags : map (top 7) zs ≡ map p xs = ap (map (top 7)) e ∙ tops p xs in
-    let same : mask_l (map p xs) ≡ mask_l (map (top 7) zs) % 2 ^ 64 =
-    sym (ap (λ l. mask_l l % 2 ^ 64) flags ∙ mask_l-mod (map p xs) 64 (omega (arith, length-map xs p))) in
-    subst (λ m. IsMask m (map p xs)) same (IsMask-mask_l (map p xs))
+    subst (λ m. IsMask m (map p xs)) (sym (mask_of p xs zs (omega (arith, long)) e)) (IsMask-mask_l (map p xs))
 
 chosen : (p : ℕ → Bool) (g h : ℕ → ℕ) (xs : List ℕ) → sel_l (map p xs) (map g xs) (map h xs) ≡ map (λ x. cond (p x) (g x) (h x)) xs
 chosen p g h [] = refl

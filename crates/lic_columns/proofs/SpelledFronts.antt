@@ -1,8 +1,11 @@
 -- Simple characters at the start of bytes, put one after another.
-use Rattle.std.proofs.Common.{◌≡◌, ℕ, suc, ◌+◌, ◌<◌, ◌≤◌, true, ◌&&◌, List, [], ◌∷◌, ◌++◌, length, take, drop, get_or, inl, refl, sym, ap, ap₂, ◌∙◌, arith, subst, append_assoc, append-nil, length-append, take-add}
-use Rattle.std.specs.Prelude.{chars, IsAscii, encode_utf8_all}
+use Rattle.std.proofs.Common.{◌≡◌, ℕ, zero, suc, ◌+◌, ◌<◌, ◌≤◌, true, false, not, ◌&&◌, le-leb, List, [], ◌∷◌, ◌++◌, length, take, drop, get_or, inl, inr, refl, sym, ap, ap₂, ◌∙◌, arith, subst, append_assoc, append-nil, length-append, take-add}
+use Rattle.std.specs.Prelude.{chars, nat_le, IsAscii, encode_utf8_all}
+use Rattle.std.specs.List.{prefix_len}
+use Rattle.std.specs.Simd.Lanes.{chunk}
 use Rattle.std.specs.Char.{encode_utf8}
-use Rattle.std.proofs.lemmas.Bool.{and_parts, cond-true, lt-ltb}
+use Rattle.std.proofs.lemmas.Bool.{and_parts, cases_lt, cond-true, false≢true, lt-ltb}
+use Rattle.std.proofs.lemmas.Simd.{run_in_chunk_fails, run_in_chunk_le}
 use Rattle.std.proofs.lemmas.List.{drop-drop, length-drop, take-append-drop}
 use Rattle.std.proofs.lemmas.Str.{encodes-IsAscii, encodes-append, chars-encodes}
 use Rattle.std.proofs.lemmas.Str.Ascii.{IsAscii-cons, IsAscii-nil}
@@ -68,6 +71,27 @@ ascii_own n bytes within ascii = record { within = within; put = λ old. ascii_p
 pub one_own : (bytes : List ℕ) → 0 < length bytes → get_or bytes 0 0 < 128 → AreOwn bytes 1
 one_own [] some small = absurd (omega (arith, some))
 one_own (b ∷ bytes) some small = ascii_own 1 (b ∷ bytes) (omega arith) (IsAscii-cons b [] small IsAscii-nil)
+
+low_take : (n : ℕ) (bytes : List ℕ) → ((k : ℕ) → k < n → get_or bytes k 0 < 128) → IsAscii (take n bytes)
+low_take zero bytes low = IsAscii-nil
+low_take (suc n) [] low = IsAscii-nil
+low_take (suc n) (b ∷ bytes) low = IsAscii-cons b (take n bytes) (low 0 (omega arith)) (low_take n bytes (λ k lt. low (suc k) (omega (arith, lt))))
+
+-- a byte is not beyond ASCII
+not_high : (b : ℕ) → nat_le 128 b ≡ false → b < 128
+not_high b not = elim (cases_lt b 128) [
+  | inl low ↦ low
+  | inr high ↦ absurd (false≢true (sym not ∙ le-leb 128 b high))
+]
+
+-- of 16 bytes those before the first that is beyond ASCII
+pub before_high_own : (bytes : List ℕ) (n : ℕ) → 16 ≤ length bytes → n ≡ prefix_len (λ b. not (nat_le 128 b)) (chunk 0 16 bytes) → AreOwn bytes n
+before_high_own bytes n long counted =
+    let room : 0 + 16 ≤ length bytes = omega (arith, long) in
+    let few : n ≤ 16 = run_in_chunk_le (λ b. nat_le 128 b) bytes 0 16 n 0 room counted in
+    ascii_own n bytes (omega (arith, long, few))
+    (low_take n bytes (λ k lt. not_high (get_or bytes k 0)
+    (run_in_chunk_fails (λ b. nat_le 128 b) bytes 0 16 n 0 room counted k (omega arith) (omega (arith, lt)))))
 
 -- ---- one after another
 

@@ -1,11 +1,13 @@
 //! Characters beyond ASCII, spelled byte for byte.
-ghost use Rattle.std.specs.Prelude.{◌≡◌, ◌<◌, ◌≤◌, ◌++◌, ◌∷◌, [], drop, length, replicate, IfOk, IfSome, IsTrue, OnOk, false};
+ghost use Rattle.std.specs.Prelude.{◌≡◌, ◌<◌, ◌≤◌, ◌++◌, ◌∷◌, [], drop, length, map, nat_le, replicate, slice_index, IfOk, IfSome, IsTrue, OnOk, false};
+ghost use Rattle.std.specs.Simd.Lanes.{mask_l};
 ghost use Rattle.std.specs.Char.{IsScalar, encode_utf8, len_utf8};
 ghost use Rattle.lic_kind.specs.Kinds.{kind_of, spell};
 ghost use Rattle.lic_columns.specs.Simple.{ArePut, AreOwn, IsNoFront, IsSimple, in_place};
 
 use lic_kind::{Kind, is_dash, is_quote, kind_of, spell, word_letter};
 use std::alloc::{AllocError, Global};
+use std::simd::prelude::*;
 
 /// So many bytes of ASCII are looked at together.
 const AT_ONCE: usize = 16;
@@ -101,19 +103,42 @@ fn own_letter(bytes: &[u8]) -> usize
     if is_own(c) { c.len_utf8() } else { 0 }
 }
 
-/// How many bytes stay as they are at the start of these: 16 of ASCII, one of it, or a letter that is its own; or else 0.
+/// At which of 16 places a byte beyond ASCII is.
+#[inline(always)]
+fn high_places(lanes: u8x16) -> u64
+    ensures { result ≡ mask_l (map (λ b. nat_le 128 b) lanes) }
+{
+    lanes.simd_ge(u8x16::splat(0x80)).to_bitmask()
+}
+
+/// How many bytes of ASCII are at the start of these, which begin with one: of the first 16, or that alone where there are fewer.
+#[inline(always)]
+fn ascii_front(bytes: &[u8]) -> usize
+    requires some { 0 < length bytes.now }
+    requires first { slice_index bytes.now 0 < 128 }
+    ensures { AreOwn bytes.now result }
+{
+    if bytes.len() < AT_ONCE {
+        return 1;
+    }
+    let high = high_places(u8x16::from_slice(bytes));
+    if high == 0 {
+        AT_ONCE
+    } else {
+        high.trailing_zeros() as usize
+    }
+}
+
+/// How many bytes stay as they are at the start of these: some of ASCII, or a letter that is its own; or else 0.
 #[inline(always)]
 fn own_some(bytes: &[u8]) -> usize
     requires { 0 < length bytes.now }
     ensures { 0 < result → AreOwn bytes.now result }
 {
-    if !bytes[0].is_ascii() {
-        return own_letter(bytes);
-    }
-    if bytes.len() >= AT_ONCE && bytes[..AT_ONCE].is_ascii() {
-        AT_ONCE
+    if bytes[0].is_ascii() {
+        ascii_front(bytes)
     } else {
-        1
+        own_letter(bytes)
     }
 }
 
