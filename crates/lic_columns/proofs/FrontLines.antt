@@ -16,7 +16,7 @@ use Rattle.lic_columns.specs.Tokens.{kept_marks, text_spans}
 use Rattle.lic_columns.proofs.Borders.{starts_between, ends_between}
 use Rattle.lic_columns.proofs.CellLemmas.{length-cells}
 use Rattle.lic_columns.proofs.ColumnLemmas.{kept_is_mark}
-use Rattle.lic_columns.proofs.LetterTexts.{letters_of_words}
+use Rattle.lic_columns.proofs.LetterTexts.{letters_are_utf8, letters_of_words}
 use Rattle.lic_columns.proofs.MarkLemmas.{joined_are_cells}
 use Rattle.lic_columns.proofs.PlainLines.{ended_chars}
 use Rattle.lic_columns.proofs.SimpleLetters.{simple_letters}
@@ -85,7 +85,10 @@ module _ (text spelled : List ℕ) (is : IsSpelled text spelled) where
       (subst (λ t. HaveLetters t (map letter (all_in_place source)) (map is_mark (all_in_place source))) (encodes-chars text is.utf8)
       (simple_letters source is.simple))
 
-  module _ (rules : LineRules) (at : ℕ) (lines : ArePlainLines rules text) (letters starts ends : List ℕ) (utf8 : IsUtf8 letters)
+  pub letters_utf8 : IsUtf8 (map letter spelled)
+  letters_utf8 = subst (λ s. IsUtf8 (map letter s)) (sym is.is) (letters_are_utf8 source is.simple)
+
+  module _ (rules : LineRules) (at : ℕ) (lines : ArePlainLines rules text) (letters starts ends : List ℕ)
       (letters_are : letters ≡ map letter spelled) (starts_are : starts ≡ starts_of (text_spans rules.separators at text (known_of spelled)))
       (ends_are : ends ≡ ends_of (text_spans rules.separators at text (known_of spelled))) where
     abbrev kept : List Bool
@@ -122,26 +125,24 @@ module _ (text spelled : List ℕ) (is : IsSpelled text spelled) where
 
     begins : (i : ℕ) → i < length starts → IsCharBoundary letters (slice_index starts i - at)
     begins i lt =
-        let own : IsUtf8 (map letter spelled) = subst IsUtf8 letters_are utf8 in
         let place : get_or (starts_of found) i 0 - at ≡ slice_index starts i - at = ap (λ l. get_or l i 0 - at) (sym starts_are) in
         subst (λ l. IsCharBoundary l (slice_index starts i - at)) (sym letters_are)
         (subst (IsCharBoundary (map letter spelled)) place
-        (starts_between spelled own (map is_word spelled) kept joined refl (kept_is_mark rules.separators text (map is_mark spelled)) cells_are at i
+        (starts_between spelled letters_utf8 (map is_word spelled) kept joined refl (kept_is_mark rules.separators text (map is_mark spelled)) cells_are at i
         (omega (arith, lt, ap length starts_are))))
 
     stops : (i : ℕ) → i < length starts → IsCharBoundary letters (slice_index ends i - at)
     stops i lt =
-        let own : IsUtf8 (map letter spelled) = subst IsUtf8 letters_are utf8 in
         let place : get_or (ends_of found) i 0 - at ≡ slice_index ends i - at = ap (λ l. get_or l i 0 - at) (sym ends_are) in
         subst (λ l. IsCharBoundary l (slice_index ends i - at)) (sym letters_are)
         (subst (IsCharBoundary (map letter spelled)) place
-        (ends_between spelled own (map is_word spelled) kept joined refl (kept_is_mark rules.separators text (map is_mark spelled)) cells_are at i
+        (ends_between spelled letters_utf8 (map is_word spelled) kept joined refl (kept_is_mark rules.separators text (map is_mark spelled)) cells_are at i
         (omega (arith, lt, many, ap length ends_are))))
 
     pub have_tokens : HaveFirstTokens rules at text (record { letters = letters; starts = starts; ends = ends })
     have_tokens = record {
-      utf8 = utf8;
-      words = letters_of_words source letters is.simple utf8 (letters_are ∙ ap (map letter) is.is);
+      utf8 = subst IsUtf8 (sym letters_are) letters_utf8;
+      words = letters_of_words source letters is.simple (subst IsUtf8 (sym letters_are) letters_utf8) (letters_are ∙ ap (map letter) is.is);
       long = long;
       paired = many;
       from = λ i lt. (bounds i lt).0;

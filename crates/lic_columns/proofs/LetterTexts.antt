@@ -1,19 +1,20 @@
 -- The letters of simple characters: what of them is beyond ASCII is of words.
 use Rattle.std.proofs.Common.{◌≡◌, ℕ, zero, suc, ◌<◌, ◌≤◌, false, ◌&&◌, ◌||◌, List, [], ◌∷◌, ◌++◌, All, length, map, get_or, replicate, inl, inr, refl, sym, ap, ap₂, subst, ◌∙◌, arith, append-nil}
-use Rattle.std.specs.Prelude.{nat_lt, chars, IsUtf8, encode_utf8_all}
+use Rattle.std.specs.Prelude.{nat_lt, chars, IsAscii, IsUtf8, encode_utf8_all}
 use Rattle.std.specs.Char.{encode_utf8, len_utf8}
 use Rattle.std.specs.List.{AllByRecursion}
 use Rattle.std.proofs.lemmas.Bool.{cases_Bool, cases_lt, cond-true, cond-false, lt-ltb, ltb-true}
 use Rattle.std.proofs.lemmas.List.{map-append}
 use Rattle.std.proofs.lemmas.List.Elements.{All-head}
-use Rattle.std.proofs.lemmas.Str.{chars_from_encodes, encode_ascii, encodes-append, inside_one}
+use Rattle.std.proofs.lemmas.Str.{IsUtf8-append, IsUtf8-from_ascii, IsUtf8-nil, chars_from_encodes, encode_ascii, encodes-append, inside_one}
+use Rattle.std.proofs.lemmas.Str.Ascii.{IsAscii-cons, IsAscii-nil}
 use Rattle.lic_kind.specs.declared.Kind.TheVariants as kind
 use Rattle.lic_kind.specs.Kinds.{kind_of, is_mark_kind, is_word_kind}
 use Rattle.lic_kind.proofs.LetterLemmas.{word_letters}
 use Rattle.lic_columns.specs.Bytes.{letter, has_letter}
 use Rattle.lic_columns.specs.PlainLines.{IsOfWord}
 use Rattle.lic_columns.specs.Simple.{IsSimple, IsSimpleLetter, AreSimple, in_place, in_place_of, all_in_place}
-use Rattle.lic_columns.proofs.AsciiLetters.{letter_low}
+use Rattle.lic_columns.proofs.AsciiLetters.{letter_low, letters_ascii}
 use Rattle.lic_columns.proofs.Borders.{mark_low}
 use Rattle.lic_columns.proofs.WideTexts.{mark_shape}
 
@@ -45,18 +46,23 @@ wide_letters d big =
 
 -- ---- letters as characters
 
--- the letters of these bytes are characters, of which those beyond ASCII are of words
+-- the letters of these bytes are a text, of which the characters beyond ASCII are of words
 abbrev HaveWords : List ℕ → Type 0
-HaveWords spelled = (ds : List ℕ) × (map letter spelled ≡ encode_utf8_all ds) × AllByRecursion IsOfWord ds
+HaveWords spelled = (ds : List ℕ) × (map letter spelled ≡ encode_utf8_all ds) × AllByRecursion IsOfWord ds × IsUtf8 (map letter spelled)
+
+low_ascii : (n d : ℕ) → d < 128 → IsAscii (replicate n d)
+low_ascii zero d low = IsAscii-nil
+low_ascii (suc n) d low = IsAscii-cons d (replicate n d) low (low_ascii n d low)
 
 low_words : (n d : ℕ) → d < 128 → HaveWords (replicate n d)
-low_words zero d low = ([], refl, tt)
+low_words zero d low = ([], refl, tt, IsUtf8-nil)
 low_words (suc n) d low =
     let rest = low_words n d low in
     let small = letter_low d low in (
       letter d ∷ rest.0,
       ap₂ (λ k l. k ++ l) (sym (encode_ascii (letter d) small)) rest.1,
       (λ big. absurd (omega (arith, big, small)), rest.2),
+      IsUtf8-from_ascii (map letter (replicate (suc n) d)) (letters_ascii (replicate (suc n) d) (low_ascii (suc n) d low)),
     )
 
 big_in_place : (c : ℕ) → 128 ≤ c → in_place c ≡ in_place_of (kind_of c) c
@@ -68,7 +74,8 @@ letter_words c big is =
     big_in_place c big ∙ ap (λ k. in_place_of k c) is.word ∙ ap encode_utf8_all is.spelled in
     let word : kind_of is.letter ≡ kind.Word =
     All-head (λ d. kind_of d ≡ kind.Word) is.letter [] (subst (All (λ d. kind_of d ≡ kind.Word)) is.spelled (word_letters c is.word)) in
-    (is.letter ∷ [], ap (map letter) own ∙ wide_letters is.letter is.high, (λ high. word, tt))
+    let same : map letter (in_place c) ≡ encode_utf8_all (is.letter ∷ []) = ap (map letter) own ∙ wide_letters is.letter is.high in
+    (is.letter ∷ [], same, (λ high. word, tt), subst IsUtf8 (sym (same ∙ append-nil (encode_utf8 is.letter))) is.utf8)
 
 simple_words : (c : ℕ) → IsSimple c → HaveWords (in_place c)
 simple_words c simple = elim (cases_lt c 128) [
@@ -86,13 +93,15 @@ simple_words c simple = elim (cases_lt c 128) [
 ]
 
 all_words : (cs : List ℕ) → AreSimple cs → HaveWords (all_in_place cs)
-all_words [] are = ([], refl, tt)
+all_words [] are = ([], refl, tt, IsUtf8-nil)
 all_words (c ∷ cs) are =
     let here = simple_words c are.0 in
-    let rest = all_words cs are.2 in (
+    let rest = all_words cs are.2 in
+    let parts : map letter (all_in_place (c ∷ cs)) ≡ map letter (in_place c) ++ map letter (all_in_place cs) = map-append letter (in_place c) (all_in_place cs) in (
       here.0 ++ rest.0,
-      map-append letter (in_place c) (all_in_place cs) ∙ ap₂ (λ k l. k ++ l) here.1 rest.1 ∙ sym (encodes-append here.0 rest.0),
+      parts ∙ ap₂ (λ k l. k ++ l) here.1 rest.1 ∙ sym (encodes-append here.0 rest.0),
       both here.0 rest.0 here.2 rest.2,
+      subst IsUtf8 (sym parts) (IsUtf8-append (map letter (in_place c)) (map letter (all_in_place cs)) here.3 rest.3),
     )
   where
     both : (xs ys : List ℕ) → AllByRecursion IsOfWord xs → AllByRecursion IsOfWord ys → AllByRecursion IsOfWord (xs ++ ys)
@@ -103,3 +112,6 @@ pub letters_of_words : (cs letters : List ℕ) → AreSimple cs → IsUtf8 lette
 letters_of_words cs letters are utf8 is =
     let words = all_words cs are in
     subst (AllByRecursion IsOfWord) (chars_from_encodes words.0 letters utf8 (sym (is ∙ words.1))) words.2
+
+pub letters_are_utf8 : (cs : List ℕ) → AreSimple cs → IsUtf8 (map letter (all_in_place cs))
+letters_are_utf8 cs are = (all_words cs are).3

@@ -1,9 +1,9 @@
 -- The bytes of characters beyond ASCII.
-use Rattle.std.proofs.Common.{◌≡◌, ℕ, ◌+◌, ◌-◌, ◌*◌, ◌/◌, ◌%◌, ◌<◌, ◌≤◌, true, List, [], ◌∷◌, ◌++◌, length, replicate, get_or, take, drop, inl, inr, refl, sym, ap, ap₂, ◌∙◌, arith}
+use Rattle.std.proofs.Common.{◌≡◌, ℕ, ◌+◌, ◌-◌, ◌*◌, ◌/◌, ◌%◌, ◌<◌, ◌≤◌, true, List, [], ◌∷◌, ◌++◌, length, replicate, get_or, take, drop, inl, inr, refl, sym, ap, ap₂, subst, ◌∙◌, arith}
 use Rattle.std.specs.Char.{encode_utf8, len_utf8}
-use Rattle.std.specs.Prelude.{nat_lt, if◌then◌else◌}
+use Rattle.std.specs.Prelude.{nat_lt, if◌then◌else◌, IsUtf8}
 use Rattle.std.proofs.lemmas.Bool.{false≢true, cases_lt, cond-false, le-ltb}
-use Rattle.std.proofs.lemmas.Str.{length-encode, len_utf8_ascii}
+use Rattle.std.proofs.lemmas.Str.{length-encode, len_utf8_ascii, IsUtf8-encode}
 use Rattle.std.proofs.Math.Seq.{take-append_seam}
 use Rattle.std.proofs.Math.Utf8.{scalar}
 use Rattle.lic_kind.specs.declared.Kind.TheVariants as kind
@@ -56,10 +56,10 @@ dash_simple c w width few is = inr (inr (inr (record { joins = inr is; width = o
 
 -- ---- the character at the start of bytes
 
-abbrev width_two : (c : ℕ) → 128 ≤ c → c < 2048 → len_utf8 c ≡ 2
+width_two : (c : ℕ) → 128 ≤ c → c < 2048 → len_utf8 c ≡ 2
 width_two c low high = sym (length-encode c) ∙ ap length (encoded_two c low high)
 
-abbrev width_three : (c : ℕ) → 2048 ≤ c → c < 65536 → len_utf8 c ≡ 3
+width_three : (c : ℕ) → 2048 ≤ c → c < 65536 → len_utf8 c ≡ 3
 width_three c low high = sym (length-encode c) ∙ ap length (encoded_three c low high)
 
 two_of : (bytes : List ℕ) → 2 ≤ length bytes → bytes ≡ get_or bytes 0 0 ∷ get_or bytes 1 0 ∷ drop 2 bytes
@@ -75,18 +75,18 @@ three_of (a ∷ b ∷ c ∷ bytes) h = refl
 
 -- ---- a letter in the place of a word character
 
+width_four : (c : ℕ) → 65536 ≤ c → len_utf8 c ≡ 4
+width_four c far =
+    cond-false {A = ℕ} (nat_lt c 0x80) 1 (if nat_lt c 0x800 then 2 else (if nat_lt c 0x1_0000 then 3 else 4)) (le-ltb c 0x80 (omega (arith, far)))
+    ∙ cond-false {A = ℕ} (nat_lt c 0x800) 2 (if nat_lt c 0x1_0000 then 3 else 4) (le-ltb c 0x800 (omega (arith, far)))
+    ∙ cond-false {A = ℕ} (nat_lt c 0x1_0000) 3 4 (le-ltb c 0x1_0000 far)
+
 wide_two : (c : ℕ) → 128 ≤ c → 2 ≤ len_utf8 c
 wide_two c big = elim (cases_lt c 2048) [
   | inl below ↦ omega (arith, width_two c big below)
   | inr above ↦ elim (cases_lt c 65536) [
     | inl below ↦ omega (arith, width_three c above below)
-    | inr far ↦
-        let one : len_utf8 c ≡ (if nat_lt c 0x800 then 2 else (if nat_lt c 0x1_0000 then 3 else 4)) =
-        cond-false {A = ℕ} (nat_lt c 0x80) 1 (if nat_lt c 0x800 then 2 else (if nat_lt c 0x1_0000 then 3 else 4)) (le-ltb c 0x80 big) in
-        let two : (if nat_lt c 0x800 then 2 else (if nat_lt c 0x1_0000 then 3 else 4)) ≡ (if nat_lt c 0x1_0000 then 3 else 4) =
-        cond-false {A = ℕ} (nat_lt c 0x800) 2 (if nat_lt c 0x1_0000 then 3 else 4) (le-ltb c 0x800 above) in
-        let three : (if nat_lt c 0x1_0000 then 3 else 4) ≡ 4 = cond-false {A = ℕ} (nat_lt c 0x1_0000) 3 4 (le-ltb c 0x1_0000 far) in
-        omega (arith, one, two, three)
+    | inr far ↦ omega (arith, width_four c far)
   ]
 ]
 
@@ -96,22 +96,25 @@ wide_high c letter big same = elim (cases_lt letter 128) [
   | inr high ↦ high
 ]
 
-abbrev simple_letter : (c w letter : ℕ) → 128 ≤ c → w ≡ len_utf8 c → len_utf8 letter ≡ w → kind_of c ≡ kind.Word → spell c ≡ letter ∷ [] → IsSimpleLetter c
-simple_letter c w letter big width same word spelled = record {
+abbrev simple_letter : (c w letter : ℕ) (text : List ℕ) → 128 ≤ c → w ≡ len_utf8 c → len_utf8 letter ≡ w → kind_of c ≡ kind.Word → spell c ≡ letter ∷ []
+    → IsUtf8 text → text ≡ encode_utf8 letter → IsSimpleLetter c
+simple_letter c w letter text big width same word spelled utf8 is = record {
   word = word;
   letter = letter;
   spelled = spelled;
   high = wide_high c letter big (same ∙ width);
+  utf8 = subst IsUtf8 is utf8;
   width = same ∙ width;
 }
 
-pub letter_simple : (c w letter : ℕ) → 128 ≤ c → w ≡ len_utf8 c → len_utf8 letter ≡ w → kind_of c ≡ kind.Word → spell c ≡ letter ∷ [] → IsSimple c
-letter_simple c w letter big width same word spelled = inr (inl (simple_letter c w letter big width same word spelled))
+pub letter_simple : (c w letter : ℕ) (text : List ℕ) → 128 ≤ c → w ≡ len_utf8 c → len_utf8 letter ≡ w → kind_of c ≡ kind.Word → spell c ≡ letter ∷ []
+    → IsUtf8 text → text ≡ encode_utf8 letter → IsSimple c
+letter_simple c w letter text big width same word spelled utf8 is = inr (inl (simple_letter c w letter text big width same word spelled utf8 is))
 
-pub letter_added : (c w letter : ℕ) (old new : List ℕ) → 128 ≤ c → w ≡ len_utf8 c → len_utf8 letter ≡ w → kind_of c ≡ kind.Word → spell c ≡ letter ∷ []
-    → new ≡ old ++ encode_utf8 letter → new ≡ old ++ in_place c
-letter_added c w letter old new big width same word spelled added =
-    added ∙ ap (λ l. old ++ l) (sym (letter_in_place c big (simple_letter c w letter big width same word spelled)))
+pub letter_added : (c w letter : ℕ) (text old new : List ℕ) → 128 ≤ c → w ≡ len_utf8 c → len_utf8 letter ≡ w → kind_of c ≡ kind.Word
+    → spell c ≡ letter ∷ [] → IsUtf8 text → text ≡ encode_utf8 letter → new ≡ old ++ text → new ≡ old ++ in_place c
+letter_added c w letter text old new big width same word spelled utf8 is added =
+    added ∙ ap (λ l. old ++ l) (is ∙ sym (letter_in_place c big (simple_letter c w letter text big width same word spelled utf8 is)))
 
 -- a word character that is its own letter stays as it is
 pub letter_own : (c : ℕ) (bytes : List ℕ) → scalar c ≡ true → 128 ≤ c → kind_of c ≡ kind.Word → spell c ≡ c ∷ [] → len_utf8 c ≤ length bytes
@@ -119,10 +122,12 @@ pub letter_own : (c : ℕ) (bytes : List ℕ) → scalar c ≡ true → 128 ≤ 
 letter_own c bytes is_scalar big word spelled within parts =
     let front : take (len_utf8 c) bytes ≡ encode_utf8 c =
     ap₂ take (sym (length-encode c)) parts ∙ take-append_seam (encode_utf8 c) (drop (len_utf8 c) bytes) in
+    let utf8 = IsUtf8-encode c is_scalar in
     record {
       within = within;
       put = λ old.
-          char_put c (len_utf8 c) bytes old (old ++ take (len_utf8 c) bytes) is_scalar (letter_simple c (len_utf8 c) c big refl refl word spelled) within parts
+          char_put c (len_utf8 c) bytes old (old ++ take (len_utf8 c) bytes) is_scalar
+          (letter_simple c (len_utf8 c) c (encode_utf8 c) big refl refl word spelled utf8 refl) within parts
           (λ mark. absurd (false≢true (sym (ap is_word_kind (sym word ∙ mark)))))
-          (letter_added c (len_utf8 c) c old (old ++ take (len_utf8 c) bytes) big refl refl word spelled (ap (λ l. old ++ l) front));
+          (letter_added c (len_utf8 c) c (encode_utf8 c) old (old ++ take (len_utf8 c) bytes) big refl refl word spelled utf8 refl (ap (λ l. old ++ l) front));
     }

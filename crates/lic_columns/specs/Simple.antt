@@ -1,6 +1,6 @@
 -- Texts of simple characters: those that are spelled byte for byte.
 use Rattle.std.specs.Prelude.{◌≡◌, true, ◌⊎◌, ℕ, ◌<◌, ◌≤◌, if◌then◌else◌, nat_lt, List, [], ◌∷◌, ◌++◌, replicate, length, drop, take, chars, IsUtf8, encode_utf8_all}
-use Rattle.std.specs.Char.{len_utf8}
+use Rattle.std.specs.Char.{encode_utf8, len_utf8}
 use Rattle.std.proofs.Math.Utf8.{scalars}
 use Rattle.std.specs.List.{AllByRecursion, flat_map}
 use Rattle.lic_kind.specs.Kinds.{is_dash, is_quote, kind_of, letter_of, spell}
@@ -18,6 +18,7 @@ pub record IsSimpleLetter (c : ℕ) : Type 0 where
   pub letter : ℕ
   pub spelled : spell c ≡ letter ∷ []
   pub high : 128 ≤ letter
+  pub utf8 : IsUtf8 (encode_utf8 letter)
   pub width : len_utf8 letter ≡ len_utf8 c
 
 -- a quote or a dash of at most three bytes

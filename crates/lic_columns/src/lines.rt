@@ -1,5 +1,5 @@
 //! The tokens of lines.
-ghost use Rattle.std.specs.Prelude.{◌≡◌, ℕ, ◌+◌, ◌^◌, ◌<◌, ◌≤◌, [], true, length, map, take, slice_index, string_bytes, IfOk, OnOk, IsAscii};
+ghost use Rattle.std.specs.Prelude.{◌≡◌, ℕ, ◌+◌, ◌^◌, ◌<◌, ◌≤◌, [], true, length, map, take, slice_index, IfOk, OnOk, IsAscii};
 ghost use Rattle.lic_kind.specs.LineRules.{rules_of};
 ghost use Rattle.lic_lines.specs.Cells.{cells_of};
 ghost use Rattle.lic_lines.specs.Streaks.{streaks_joined};
@@ -19,7 +19,6 @@ use crate::plain::spell_lines;
 use crate::tokens::list_tokens;
 use lic_lines::Rules;
 use lic_trim::SourceChar;
-use simdutf8::compat::from_utf8;
 use std::alloc::{AllocError, Global};
 use std::marker::Model;
 
@@ -32,40 +31,16 @@ pub struct Lines {
     characters: Vec<SourceChar>,
     /// What the simple characters of lines are spelled by, in the place of their bytes.
     spelled: Vec<u8>,
-    letters: String,
     starts: Places,
     ends: Places,
 }
 
 impl Model for Lines {
-    ghost use Rattle.std.specs.Prelude.{string_bytes};
     ghost use Rattle.lic_columns.specs.TokenPlaces.{TokenPlaces};
 
     ghost Value = { TokenPlaces };
 
-    ghost view = { λ l. record { letters = string_bytes l.letters; starts = l.starts; ends = l.ends } };
-}
-
-/// Bytes of ASCII as a text.
-fn ascii_text(bytes: &[u8]) -> &str
-    requires { IsAscii bytes.now }
-    ensures { result.now ≡ bytes.now }
-{
-    match from_utf8(bytes) {
-        Ok(text) => text,
-        Err(_) => unreachable!(),
-    }
-}
-
-/// Puts bytes of ASCII in the place of a text.
-fn put_letters(text: &mut String, bytes: &[u8]) -> Result<(), AllocError>
-    requires { IsAscii bytes.now }
-    ensures { OnOk result (string_bytes text.new ≡ bytes.now) }
-{
-    text.clear();
-    text.reserve(bytes.len())?;
-    text.push_str(ascii_text(bytes))?;
-    Ok(())
+    ghost view = { λ l. record { letters = l.columns.letters; starts = l.starts; ends = l.ends } };
 }
 
 impl Lines {
@@ -78,7 +53,6 @@ impl Lines {
             columns: Columns::new(alloc),
             characters: Vec::new(alloc),
             spelled: Vec::new(alloc),
-            letters: String::new(alloc),
             starts: Places::new(alloc),
             ends: Places::new(alloc),
         }
@@ -86,10 +60,10 @@ impl Lines {
 
     /// The letter of each byte of the text.
     #[inline(always)]
-    pub fn letters(&self) -> &str
+    pub fn letters(&self) -> &[u8]
         ensures { result.now ≡ self.now.letters }
     {
-        self.letters.as_str()
+        self.columns.letters()
     }
 
     /// Where each token begins.
@@ -117,13 +91,13 @@ impl Lines {
         alloc: Global,
         rules: &Rules,
         at: u32,
-        text: &str,
+        bytes: &[u8],
     ) -> Result<(), AllocError>
-        requires ascii { IsAscii text.now }
-        requires fits { at + length text.now + 65 ≤ 2 ^ 32 }
-        ensures letters { OnOk result (self.new.letters ≡ map letter text.now) }
+        requires ascii { IsAscii bytes.now }
+        requires fits { at + length bytes.now + 65 ≤ 2 ^ 32 }
+        ensures letters { OnOk result (self.new.letters ≡ map letter bytes.now) }
         ensures ascii { OnOk result (IsAscii self.new.letters) }
-        ensures long { OnOk result (length self.new.letters ≡ length text.now) }
+        ensures long { OnOk result (length self.new.letters ≡ length bytes.now) }
         ensures paired { OnOk result (length self.new.ends ≡ length self.new.starts) }
         ensures from { OnOk result ((i : ℕ) → i < length self.new.starts → at ≤ slice_index self.new.starts i) }
         ensures some { OnOk result ((i : ℕ) → i < length self.new.starts
@@ -131,9 +105,8 @@ impl Lines {
         ensures to { OnOk result ((i : ℕ) → i < length self.new.starts
             → slice_index self.new.ends i ≤ at + length self.new.letters) }
         ensures tokens { OnOk result (span_tokens true at at self.new.letters (spans_by self.new.starts self.new.ends)
-            ≡ first_tokens (streaks_joined (rules_of rules.now) (cells_of (rules_of rules.now) (placed at text.now)))) }
+            ≡ first_tokens (streaks_joined (rules_of rules.now) (cells_of (rules_of rules.now) (placed at bytes.now)))) }
     {
-        let bytes = text.as_bytes();
         self.columns.read(bytes)?;
         clear_lines(alloc, rules, bytes, &mut self.columns, &mut self.characters)?;
         list_tokens(
@@ -144,7 +117,6 @@ impl Lines {
             &mut self.starts,
             &mut self.ends,
         )?;
-        put_letters(&mut self.letters, self.columns.letters())?;
         Ok(())
     }
 
@@ -173,11 +145,6 @@ impl Lines {
             &mut self.starts,
             &mut self.ends,
         )?;
-        let Ok(letters) = from_utf8(self.columns.letters()) else {
-            return Ok(0);
-        };
-        self.letters.clear();
-        self.letters.push_str(letters)?;
         Ok(end)
     }
 }

@@ -11,8 +11,8 @@ mod words;
 
 pub use fault::TextFault;
 pub use feeder::{Feeder, read_pieces};
-pub use lic_tokens::{Rewriting, Span, Token, TokenList};
-pub use reader::line_tokens::{LineBuffers, ascii_text, take_ascii, take_part};
+pub use lic_tokens::{Rewriting, Span, Token, TokenList, utf8_text};
+pub use reader::line_tokens::{LineBuffers, take_ascii, take_part};
 pub use reader::lines::{line_end, lines_end, text_line_end};
 pub use refusal::MAX_BYTES;
 pub use text::Text;

@@ -12,7 +12,7 @@ pub(crate) mod line_tokens;
 pub(crate) mod lines;
 
 use crate::fault::TextFault;
-use crate::reader::line_tokens::{LineBuffers, ascii_text, take_any_line, take_ascii, take_front};
+use crate::reader::line_tokens::{LineBuffers, take_any_line, take_ascii, take_front};
 use crate::reader::lines::{MAX_TOGETHER, line_end, lines_end};
 use crate::refusal::MAX_BYTES;
 use crate::words::Words;
@@ -90,9 +90,10 @@ impl<'w> Reader<'w> {
             return Ok(false);
         }
         let at = self.line_start as u32;
-        let Some(text) = ascii_text(&self.source[self.line_start..end]) else {
+        let text = &self.source[self.line_start..end];
+        if !text.is_ascii() {
             return Ok(false);
-        };
+        }
         take_ascii(
             self.alloc,
             self.rules,

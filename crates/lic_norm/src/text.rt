@@ -145,10 +145,19 @@ impl Text {
 
     /// The texts of the tokens as one text in canonical spelling: one blank between two letters of kind Word that belong to
     /// different tokens, and none elsewhere (SPDX 2.3 Annex B; this project's profile).
-    pub fn spelled(&self) -> &str
+    pub fn spelled(&self) -> &[u8]
         ensures { result.now ≡ spelled (texts_of self.now.tokens) }
     {
         self.tokens.spelled()
+    }
+
+    /// The bytes of the source that the token number `i` was made from.
+    #[inline(always)]
+    pub fn span(&self, i: usize) -> Span
+        requires { i < length self.now.tokens }
+        ensures { (d : _) → result ≡ (slice_index_or self.now.tokens i d).span }
+    {
+        self.tokens.span(i)
     }
 
     /// Where the text of the token number `i` is in the canonical spelling (bytes).

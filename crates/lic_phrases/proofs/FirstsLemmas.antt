@@ -1,5 +1,5 @@
 -- What the prefilter of first texts says no to has no bound.
-use Rattle.std.proofs.Common.{◌≡◌, ◌≢◌, ◌∙◌, ◌+◌, ◌-◌, ◌<◌, ◌*◌, ◌/◌, ◌%◌, ◌^◌, ℕ, zero, suc, min, List, [], ◌∷◌, length, get_or, Bool, true, false, ◌||◌, ◌==◌, inl, inr, refl, sym, ap, ap₂, subst, arith, reverse, true≢false}
+use Rattle.std.proofs.Common.{◌≡◌, ◌≢◌, ◌∙◌, ◌+◌, ◌-◌, ◌<◌, ◌*◌, ◌/◌, ◌%◌, ◌^◌, ℕ, zero, suc, min, List, [], ◌∷◌, length, get_or, true, false, ◌||◌, ◌==◌, inl, inr, refl, sym, ap, ap₂, subst, arith, reverse, true≢false}
 use Rattle.std.proofs.lemmas.Bool.{cases_Bool, cases_eq, cond-false, eq-eqb, or_left, or_right}
 use Rattle.std.proofs.lemmas.List.{get_or-reverse, get_or-set_same, get_or-set_other, length-reverse}
 use Rattle.std.proofs.lemmas.Nat.Bits.{bit_at-suc, bit_at_ones}

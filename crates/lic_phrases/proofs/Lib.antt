@@ -3,6 +3,7 @@ pub mod SignLemmas
 pub mod AddressLemmas
 pub mod PhraseKeyLemmas
 pub mod PhraseListLemmas
+pub mod ByteKeys
 pub mod FirstsLemmas
 pub mod PhraseLemmas
 pub mod MergingLemmas

@@ -103,7 +103,8 @@ impl Phrases {
         ensures err { OnErr result (self.new ≡ self.old) }
     {
         let key = key_of(alloc, texts)?;
-        self.most_from.raise(alloc, texts[0].as_str(), texts.len())?;
+        self.most_from
+            .raise(alloc, texts[0].as_bytes(), texts.len())?;
         self.classes.insert(key, class)?;
         Ok(())
     }
@@ -129,7 +130,7 @@ impl Phrases {
     /// How many tokens a phrase has at most that begins with a token of this text: 0 where there is
     /// no such phrase.
     #[inline(always)]
-    pub(crate) fn most_from(&self, text: &str) -> usize
+    pub(crate) fn most_from(&self, text: &[u8]) -> usize
         ensures bound { longest_from self.now.phrases text.now ≤ result }
         ensures short { result ≤ MAX_TOKENS }
         ensures some { HaveTokens self.now.phrases }
@@ -139,7 +140,7 @@ impl Phrases {
 
     /// Whether a look into a table says that this text is plain and begins no phrase. It does so of most texts that are.
     #[inline(always)]
-    pub(crate) fn is_plain(&self, text: &str) -> bool
+    pub(crate) fn is_plain(&self, text: &[u8]) -> bool
         requires { 0 < length text.now }
         ensures plain { IsTrue result → IsPlain text.now }
         ensures none { IsTrue result → longest_from self.now.phrases text.now ≡ 0 }

@@ -107,10 +107,10 @@ impl Rewriter {
     /// Whether a token of this text is settled at once and as it is where none is kept back: it is no sign, no `https` and begins
     /// no phrase.
     #[inline(always)]
-    pub fn leaves(phrases: &Phrases, text: &str) -> bool
+    pub fn leaves(phrases: &Phrases, text: &[u8]) -> bool
         ensures { IsTrue result → IsLeft phrases.now.phrases text.now }
     {
-        if "copyright" == text || "https" == text {
+        if "copyright".as_bytes() == text || "https".as_bytes() == text {
             return false;
         }
         phrases.most_from(text) == 0
@@ -119,7 +119,7 @@ impl Rewriter {
     /// The same by a look into a table alone, which says yes to most texts that are left: plain ones, of which the first letter
     /// and the length are of no other text.
     #[inline(always)]
-    pub fn leaves_plain(phrases: &Phrases, text: &str) -> bool
+    pub fn leaves_plain(phrases: &Phrases, text: &[u8]) -> bool
         requires { 0 < length text.now }
         ensures plain { IsTrue result → IsPlain text.now }
         ensures left { IsTrue result → IsLeft phrases.now.phrases text.now }
@@ -130,7 +130,7 @@ impl Rewriter {
     /// Whether a token of this text that is taken next is settled at once and as it is: none is kept back, and it is left as it
     /// is. It need not be pushed then.
     #[inline(always)]
-    pub fn lets_pass(&self, phrases: &Phrases, text: &str) -> bool
+    pub fn lets_pass(&self, phrases: &Phrases, text: &[u8]) -> bool
         ensures { IsTrue result → (settled : List SpannedText) (taken : List Token) (token : Token)
             → token.text ≡ text.now
             → Settles phrases.now.phrases taken settled self.now

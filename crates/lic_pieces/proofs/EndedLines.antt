@@ -223,7 +223,7 @@ pub ended_tokens : (rules : LineRules) (before : Next) (text lines front past : 
 ended_tokens rules before text lines front past cut utf8 ascii is =
     let same = chars-IsAscii lines ascii in
     let cells = cells_of rules (placed 0 lines) in
-    ap (λ ts. map bare_token ts ++ piece_tokens rules true before past) (sym (first_tokens_of-ascii rules 0 lines utf8 ascii))
+    ap (λ ts. map bare_token ts ++ piece_tokens rules true before past) (sym (first_tokens_of-ascii rules 0 lines ascii))
     ∙ ap (λ ts. ts ++ piece_tokens rules true before past) (sym (tokens_of_cells-unplaced rules lines))
     ∙ ap (λ cs. tokens_of_cells rules (cells_of rules (unplaced cs)) ++ piece_tokens rules true before past) (sym same)
     ∙ sym (piece_tokens-ended rules before text lines front past cut utf8 (same ∙ is))

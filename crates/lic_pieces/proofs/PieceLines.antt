@@ -1,11 +1,11 @@
 -- The lines of a piece of a template's text, one after another.
-use Rattle.std.proofs.Common.{◌≡◌, ℕ, ◌+◌, ◌-◌, ◌≤◌, length, take, drop, subst, Bool, true, false, List, [], ◌∷◌, ◌++◌, refl, sym, ap, ap₂, ◌∙◌, append_assoc, append-nil, inl, inr, ◌==◌, ◌&&◌, None, Some, arith}
+use Rattle.std.proofs.Common.{◌≡◌, ℕ, ◌+◌, ◌≤◌, length, drop, Bool, true, false, List, [], ◌∷◌, ◌++◌, refl, sym, ap, ap₂, ◌∙◌, append_assoc, append-nil, inl, inr, ◌==◌, ◌&&◌, None, Some, arith}
 use Rattle.std.specs.List.{slice_range}
-use Rattle.std.specs.Str.{IsUtf8, IsCharBoundary, chars}
+use Rattle.std.specs.Str.{IsUtf8, chars}
 use Rattle.std.specs.Char.{is_whitespace}
 use Rattle.std.proofs.lemmas.Bool.{cond-true}
-use Rattle.std.proofs.lemmas.List.{map-append, take-append-drop, drop-drop, drop_all}
-use Rattle.std.proofs.lemmas.Str.{chars-nil, chars-append, IsUtf8-take, IsUtf8-drop}
+use Rattle.std.proofs.lemmas.List.{map-append, drop_all}
+use Rattle.std.proofs.lemmas.Str.{chars-nil, chars-append}
 use Rattle.lic_trim.specs.Texts.{ends_in}
 use Rattle.lic_trim.specs.Sources.{chars_of, unplaced, without_dropped, lines_of}
 use Rattle.lic_trim.specs.declared.source.SourceChar.{SourceChar}

@@ -18,8 +18,8 @@ use crate::pieces::Next;
 use lic_kind::{Kind, kind_of};
 use lic_lines::{Rules, cells_of_line};
 use lic_norm::{
-    LineBuffers, MAX_BYTES, Rewriting, Words, ascii_text, line_end, lines_end, take_ascii,
-    take_part, text_line_end,
+    LineBuffers, MAX_BYTES, Rewriting, Words, line_end, lines_end, take_ascii, take_part,
+    text_line_end,
 };
 use lic_phrases::laws::spellings_are_token_texts;
 use lic_trim::{LinePart, SourceChar, cut_of_ascii, unplaced};
@@ -74,7 +74,7 @@ fn part_of(has_front: bool, before: Next, line: &[SourceChar]) -> LinePart
 }
 
 /// The lines at the start of a text that are read together, where it begins a line: whole lines of ASCII that all end in U+000A.
-fn ended_lines(has_front: bool, text: &str) -> Option<&str>
+fn ended_lines(has_front: bool, text: &str) -> Option<&[u8]>
     ensures front { IfSome result (λ lines. has_front ≡ true) }
     ensures start { IfSome result (λ lines. lines.now ≡ take (length lines.now) text.now) }
     ensures utf8 { IfSome result (λ lines. IsUtf8 lines.now) }
@@ -91,7 +91,7 @@ fn ended_lines(has_front: bool, text: &str) -> Option<&str>
     if *last != b'\n' || lines.len() > MAX_BYTES {
         return None;
     }
-    ascii_text(lines)
+    if lines.is_ascii() { Some(lines) } else { None }
 }
 
 /// Whether the cells of a whole line of ASCII begin in a blank. None if they begin in a mark, which may be one of a separator.
@@ -125,7 +125,7 @@ fn line_begins_in_blank(
 fn begins_in_blank(
     alloc: Global,
     rules: &Rules,
-    lines: &str,
+    lines: &[u8],
     characters: &mut Vec<SourceChar>,
 ) -> Result<Option<bool>, AllocError>
     requires ascii { IsAscii lines.now }
@@ -134,8 +134,7 @@ fn begins_in_blank(
     ensures { IfOk result (λ begins. IfSome begins (λ blank. begins_in_blank
         (streaks_joined (rules_of rules.now) (cells_of (rules_of rules.now) (unplaced lines.now))) ≡ blank)) }
 {
-    let bytes = lines.as_bytes();
-    line_begins_in_blank(alloc, rules, &bytes[..line_end(bytes)], characters)
+    line_begins_in_blank(alloc, rules, &lines[..line_end(lines)], characters)
 }
 
 /// Adds the edges of what is left of a line.
@@ -174,7 +173,7 @@ impl<'w> PieceReader<'w> {
         &mut self,
         alloc: Global,
         rules: &Rules,
-        text: &str,
+        text: &[u8],
         blank: bool,
         buffers: &mut LineBuffers,
     ) -> Result<(), AllocError>

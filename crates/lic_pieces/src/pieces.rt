@@ -81,5 +81,5 @@ pub fn piece(
     )?;
     let tokens = rewriting.finish()?;
     tokens.texts_are_utf8();
-    with_edges(alloc, edges, tokens.spelled())
+    with_edges(alloc, edges, tokens.spelled_text())
 }

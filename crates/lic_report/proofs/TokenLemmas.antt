@@ -28,6 +28,12 @@ module _ (tokens : List TokenValue) (i : ℕ) (d : TokenValue) (within : i < len
       place_end-last tokens (i + (length tokens - (i + 1))) (omega (arith, within)) in
       omega (arith, e, order, last)
 
+  -- and has so many bytes
+  pub text-long : place_end tokens i ≡ place_start tokens i + length (get_or tokens i d).text
+  text-long =
+      place_end-start tokens i within
+      ∙ ap (λ l. place_start tokens i + length l) (get_or-map (λ (t : TokenValue). t.text) tokens i d [] within)
+
   -- the bytes from there on
   abbrev pub letters : List ℕ
   letters = take (length (spelled (texts_of tokens)) - place_start tokens i) (drop (place_start tokens i) (spelled (texts_of tokens)))

@@ -36,11 +36,12 @@ pub fn add_token(
         → lines.new.items ≡ lines.old.items
         ++ token_line name (slice_index_or text.now.tokens i no_token)) }
 {
-    let token = text.token(i);
-    let start = text.place(i).start;
-    let letters = &text.spelled().as_bytes()[start..];
-    front.add(lines, token.span.start as u64, token.span.end as u64)?;
-    add_front(lines, letters, token.text.len(), b'\n')?;
+    let span = text.span(i);
+    let Span { start, end } = text.place(i);
+    let letters = &text.spelled()[start..];
+    front.add(lines, span.start as u64, span.end as u64)?;
+    let len = end - start;
+    add_front(lines, letters, len, b'\n')?;
     Ok(())
 }
 

@@ -107,7 +107,7 @@ fn span_at(text: &Text, i: usize) -> Span
     ensures { result ≡ (slice_index_or text.now.tokens i no_token).span }
 {
     if i < text.len() {
-        text.token(i).span
+        text.span(i)
     } else {
         Span { start: 0, end: 0 }
     }

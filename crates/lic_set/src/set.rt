@@ -157,7 +157,7 @@ impl Set {
     {
         tokens_are_utf8(text);
         tokens_are_token_texts(text);
-        self.keys.candidates(alloc, text.spelled().as_bytes())
+        self.keys.candidates(alloc, text.spelled())
     }
 
     /// The text of a candidate that is in whatever its template describes, and where its letters end in the canonical spelling of
@@ -180,7 +180,7 @@ impl Set {
         ensures none { IfOk result (λ found. IfNone found ((d : Known)
             → HasNoLetters (slice_index_or self.now candidate.now.number d).template.parts)) }
     {
-        self.keys.ends(alloc, text.spelled().as_bytes(), candidate)
+        self.keys.ends(alloc, text.spelled(), candidate)
     }
 }
 

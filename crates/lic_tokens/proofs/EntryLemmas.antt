@@ -1,19 +1,19 @@
 -- Tokens as they are kept.
 use Rattle.std.proofs.Common.{◌≡◌, ℕ, zero, suc, ◌+◌, ◌≤◌, ◌<◌, List, [], ◌∷◌, ◌++◌, length, take, get_or, refl, sym, ap, ap₂, subst, ◌∙◌, arith, append_assoc, append-nil, length-append, true, false, ◌==◌}
 use Rattle.std.specs.List.{slice_range}
-use Rattle.std.specs.Str.{IsCharBoundary, IsUtf8}
+use Rattle.std.specs.Str.{IsUtf8}
 use Rattle.std.proofs.lemmas.Bool.{cond-true, cond-false, eqb-true, false_from_ne_true}
 use Rattle.std.proofs.lemmas.List.{map-append}
-use Rattle.std.proofs.lemmas.List.Elements.{All-push}
-use Rattle.std.proofs.lemmas.Str.{IsCharBoundary-at_seam, IsUtf8-append}
-use Rattle.lic_phrases.specs.Spelling.{is_parted, blank_if, spelled}
+use Rattle.std.proofs.lemmas.List.Elements.{All-nil, All-push}
+use Rattle.lic_phrases.specs.Spelling.{is_parted, blank_if, ends_in_word, spelled}
 use Rattle.lic_phrases.specs.TokenTexts.{IsTokenText}
 use Rattle.lic_tokens.specs.Places.{texts_of, place_end, place_start}
-use Rattle.lic_tokens.specs.Tokens.{AreTokenTexts, TokenValue}
+use Rattle.lic_tokens.specs.Tokens.{AreTokenTexts}
+use Rattle.lic_tokens.specs.Tokens.{TokenValue}
 use Rattle.lic_tokens.specs.Entries.{AreEntries, IsKept, entry_values, text_from}
 use Rattle.lic_tokens.specs.declared.token.Span.{Span}
 use Rattle.lic_tokens.specs.declared.token_list.Entry.{Entry}
-use Rattle.lic_tokens.proofs.SpellingPlaces.{AreTexts, AreTexts-snoc, are_texts, slice_parts, spelled-snoc, occurs, occurs_at}
+use Rattle.lic_tokens.proofs.SpellingPlaces.{AreTexts, AreTexts-snoc, are_texts, no_last_letter, slice_parts, spelled-snoc, spelled_utf8, occurs, occurs_at}
 
 -- ---- the tokens of entries
 
@@ -37,6 +37,27 @@ values-are whole before (t ∷ tokens) (e ∷ entries) known texts are is =
 pub kept-values : (spelling : List ℕ) (entries : List Entry) (tokens : List TokenValue) → IsKept spelling entries tokens
     → entry_values spelling 0 entries ≡ tokens
 kept-values spelling entries tokens kept = values-are spelling [] tokens entries tt (are_texts tokens kept.utf8 kept.texts) kept.each kept.spells
+
+-- a spelling is in UTF-8
+pub kept_utf8 : (spelling : List ℕ) (entries : List Entry) (tokens : List TokenValue) → IsKept spelling entries tokens → IsUtf8 spelling
+kept_utf8 spelling entries tokens kept =
+    subst IsUtf8 (sym kept.spells) (spelled_utf8 (texts_of tokens) (are_texts tokens kept.utf8 kept.texts))
+
+-- what is at a place of a list has nothing to do with what is there after its end
+pub at_place : (l : List ℕ) (n a b : ℕ) → n < length l → get_or l n a ≡ get_or l n b
+at_place [] n a b lt = absurd (omega arith)
+at_place (x ∷ l) zero a b lt = refl
+at_place (x ∷ l) (suc n) a b lt = at_place l n a b (omega arith)
+
+-- no tokens are kept by nothing
+no_tokens_kept : IsKept [] [] []
+no_tokens_kept = record { spells = refl; each = tt; utf8 = All-nil (λ (t : TokenValue). IsUtf8 t.text); texts = All-nil (λ (t : TokenValue). IsTokenText t.text) }
+
+pub none_kept : (spelling : List ℕ) (entries : List Entry) → spelling ≡ [] → entries ≡ []
+    → IsKept spelling entries (entry_values spelling 0 entries) × (false ≡ ends_in_word spelling)
+none_kept spelling entries no_spelling no_entries =
+    subst (λ s. IsKept s entries (entry_values s 0 entries) × (false ≡ ends_in_word s)) (sym no_spelling)
+    (subst (λ es. IsKept [] es (entry_values [] 0 es) × (false ≡ ends_in_word [])) (sym no_entries) (no_tokens_kept, sym no_last_letter))
 
 -- ---- one entry of them
 
@@ -128,28 +149,22 @@ module _ (spelling : List ℕ) (entries : List Entry) (tokens : List TokenValue)
       let s = occurs_at tokens i spelling inside (are_texts tokens kept.utf8 kept.texts) kept.spells in
       omega (arith, s.starts, s.ends)
 
-  pub start_is_boundary : IsCharBoundary spelling (place_start tokens i)
-  start_is_boundary =
-      let known = are_texts tokens kept.utf8 kept.texts in
-      let s = occurs_at tokens i spelling inside known kept.spells in
-      let v : TokenValue = record { text = []; span = record { start = 0; end = 0 } } in
-      let text = get_or (texts_of tokens) i [] in
-      let utf8 : IsUtf8 text = subst IsUtf8 (sym (text_at tokens i v inside)) (kept.utf8 i v inside) in
-      subst (IsCharBoundary spelling) (sym s.starts)
-      (IsCharBoundary-at_seam spelling s.front (text ++ s.more) s.parts (IsUtf8-append text s.more utf8 s.utf8))
-
-  pub end_is_boundary : IsCharBoundary spelling (place_end tokens i)
-  end_is_boundary =
+  pub end_within : place_end tokens i ≤ length spelling
+  end_within =
       let s = occurs_at tokens i spelling inside (are_texts tokens kept.utf8 kept.texts) kept.spells in
       let text = get_or (texts_of tokens) i [] in
-      subst (IsCharBoundary spelling) (length-append s.front text ∙ sym s.ends)
-      (IsCharBoundary-at_seam spelling (s.front ++ text) s.more (s.parts ∙ sym (append_assoc s.front text s.more)) s.utf8)
+      omega (arith, s.ends, ap length s.parts, length-append s.front (text ++ s.more), length-append text s.more)
 
   pub text_is : (v : TokenValue) → slice_range spelling (place_start tokens i) (place_end tokens i) ≡ (get_or tokens i v).text
   text_is v =
       let s = occurs_at tokens i spelling inside (are_texts tokens kept.utf8 kept.texts) kept.spells in
       slice_parts spelling s.front (get_or (texts_of tokens) i []) s.more (place_start tokens i) (place_end tokens i) s.parts s.starts s.ends
       ∙ text_at tokens i v inside
+
+  pub text_utf8 : (bytes : List ℕ) → bytes ≡ slice_range spelling (place_start tokens i) (place_end tokens i) → IsUtf8 bytes
+  text_utf8 bytes is =
+      let v : TokenValue = record { text = []; span = record { start = 0; end = 0 } } in
+      subst IsUtf8 (sym (is ∙ text_is v)) (kept.utf8 i v inside)
 
   pub span_is : (d : Entry) (v : TokenValue) → record { start = (get_or entries i d).start; end = (get_or entries i d).end } ≡ (get_or tokens i v).span
   span_is d v = span_at [] tokens entries i d v kept.each inside

@@ -3,7 +3,6 @@ pub mod SpellingPlaces
 pub mod ListedTokens
 pub mod TokenTexts
 pub mod EntryLemmas
-pub mod CopyLemmas
 pub mod PartedLemmas
 pub mod WordTexts
 pub mod WordBytes

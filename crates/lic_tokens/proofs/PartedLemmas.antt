@@ -1,26 +1,21 @@
--- Where a blank is between letters of ASCII.
-use Rattle.std.proofs.Common.{◌≡◌, ℕ, zero, suc, ◌+◌, ◌<◌, ◌&&◌, Bool, true, false, List, [], ◌∷◌, ◌++◌, length, take, reverse, get_or, refl, sym, ap, ap₂, ◌∙◌, arith}
+-- Whether texts begin and end in words, by their letters of ASCII.
+use Rattle.std.proofs.Common.{◌≡◌, ℕ, zero, suc, ◌+◌, ◌<◌, false, List, [], ◌∷◌, ◌++◌, length, take, reverse, get_or, refl, sym, ap, ◌∙◌, arith}
 use Rattle.std.specs.Prelude.{IsAscii}
 use Rattle.std.specs.Str.{chars, IsUtf8}
 use Rattle.std.proofs.lemmas.List.{reverse-append}
 use Rattle.std.proofs.lemmas.Str.{chars-append, chars-IsAscii, chars_past_char, encode_ascii, IsCharBoundary-before_ascii, IsUtf8-take}
 use Rattle.lic_kind.specs.Kinds.{is_word_kind, kind_of}
-use Rattle.lic_phrases.specs.Spelling.{first_is_word, begins_in_word, ends_in_word, is_parted}
+use Rattle.lic_phrases.specs.Spelling.{first_is_word, begins_in_word, ends_in_word}
 use Rattle.lic_tokens.proofs.SpellingPlaces.{no_first_letter, no_last_letter}
 
-and-false : (b : Bool) → (b && false) ≡ false
-and-false true = refl
-and-false false = refl
+-- a text without letters neither begins nor ends in a word
+pub none_begins : (text : List ℕ) → length text < 1 → false ≡ begins_in_word text
+none_begins [] few = sym no_first_letter
+none_begins (b ∷ text) few = absurd (omega arith)
 
--- nothing comes before the text
-pub none_before : (spelling text : List ℕ) → length spelling < 1 → false ≡ is_parted spelling text
-none_before [] text few = sym (ap (λ b. b && begins_in_word text) no_last_letter)
-none_before (b ∷ spelling) text few = absurd (omega arith)
-
--- the text has no letter
-pub none_after : (spelling text : List ℕ) → length text < 1 → false ≡ is_parted spelling text
-none_after spelling [] few = sym (ap (λ b. ends_in_word spelling && b) no_first_letter ∙ and-false (ends_in_word spelling))
-none_after spelling (b ∷ text) few = absurd (omega arith)
+pub none_ends : (text : List ℕ) → length text < 1 → false ≡ ends_in_word text
+none_ends [] few = sym no_last_letter
+none_ends (b ∷ text) few = absurd (omega arith)
 
 one_ascii : (b : ℕ) → b < 128 → IsAscii (b ∷ [])
 one_ascii b small zero = small
@@ -48,10 +43,3 @@ pub begins-ascii : (bytes : List ℕ) → IsUtf8 bytes → 0 < length bytes → 
 begins-ascii [] utf8 some small = absurd (omega arith)
 begins-ascii (b ∷ bytes) utf8 some small =
     sym (ap first_is_word (chars_past_char (b ∷ bytes) bytes b utf8 (ap (λ l. l ++ bytes) (sym (encode_ascii b small)))))
-
--- the letters that meet are of ASCII
-pub ascii_parted : (spelling text : List ℕ) (n : ℕ) (a b : Bool) → IsUtf8 spelling → IsUtf8 text → n + 1 ≡ length spelling → 0 < length text
-    → get_or spelling n 0 < 128 → get_or text 0 0 < 128 → a ≡ is_word_kind (kind_of (get_or spelling n 0))
-    → b ≡ is_word_kind (kind_of (get_or text 0 0)) → (a && b) ≡ is_parted spelling text
-ascii_parted spelling text n a b spelling_utf8 text_utf8 count some last first is_a is_b =
-    ap₂ (λ x y. x && y) (is_a ∙ ends-ascii spelling n spelling_utf8 count last) (is_b ∙ begins-ascii text text_utf8 some first)

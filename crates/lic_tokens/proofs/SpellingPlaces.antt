@@ -87,7 +87,7 @@ pub blank_utf8 : (parted : Bool) → IsUtf8 (blank_if parted)
 blank_utf8 true = subst IsUtf8 (encode_ascii 0x20 (omega arith)) (IsUtf8-encode 0x20 refl)
 blank_utf8 false = IsUtf8-nil
 
-spelled_utf8 : (texts : List (List ℕ)) → AreTexts texts → IsUtf8 (spelled texts)
+pub spelled_utf8 : (texts : List (List ℕ)) → AreTexts texts → IsUtf8 (spelled texts)
 spelled_utf8 [] known = IsUtf8-nil
 spelled_utf8 (text ∷ []) known = known.0
 spelled_utf8 (text ∷ next ∷ texts) known =

@@ -11,4 +11,4 @@ pub use rewriting::batch::Batch;
 pub use rewriting::{PartBuffers, Rewriting};
 pub use stretch::Stretch;
 pub use token::{Span, Token};
-pub use token_list::TokenList;
+pub use token_list::{TokenList, utf8_text};

@@ -11,9 +11,9 @@ ghost use Rattle.lic_tokens.specs.Tokens.{HaveTexts, reported};
 
 pub(crate) mod batch;
 
-use crate::rewriting::batch::{Batch, Spelled, plain_text, spell};
+use crate::rewriting::batch::{Batch, Spelled, is_word_at, plain_text, spell};
 use crate::stretch::Stretch;
-use crate::token_list::TokenList;
+use crate::token_list::{TokenList, utf8_text};
 use lic_lines::{
     Buffers, FirstToken, FrontPart, Rules, SmallString, TextStart, front_part, start_of_text,
 };
@@ -165,7 +165,7 @@ impl<'w> Rewriting<'w> {
         ensures phrases { self.new.phrases.now ≡ self.old.phrases.now }
         ensures emptied { OnOk result (self.new.settled.items ≡ []) }
     {
-        if self.rewriter.lets_pass(self.phrases, text) {
+        if self.rewriter.lets_pass(self.phrases, text.as_bytes()) {
             return self.tokens.push(text, start, end);
         }
         self.push_text(alloc, text, start, end, after_blank)
@@ -239,9 +239,9 @@ impl<'w> Rewriting<'w> {
         let Some(text) = plain_text(self.phrases, stretch, i) else {
             return Ok(i);
         };
-        let letters = stretch.letters_from(i);
-        let (start, end) = (stretch.start(i), stretch.end(i));
-        self.tokens.push_front(text, letters, start, end)?;
+        let (begins, ends) = (is_word_at(text, 0), is_word_at(text, text.len() - 1));
+        self.tokens
+            .push_bytes(text, begins, ends, stretch.start(i), stretch.end(i))?;
         Ok(i + 1)
     }
 
@@ -262,9 +262,16 @@ impl<'w> Rewriting<'w> {
         ensures phrases { self.new.phrases.now ≡ self.old.phrases.now }
         ensures settled { self.new.settled.items ≡ self.old.settled.items }
     {
-        let Spelled { next, place, .. } = spell(self, stretch, i, batch);
-        self.tokens
-            .add(&batch.bytes[..place], &batch.entries[..next - i])?;
+        let Spelled {
+            next,
+            place,
+            after_word,
+        } = spell(self, stretch, i, batch);
+        self.tokens.add(
+            &batch.bytes[..place],
+            &batch.entries[..next - i],
+            after_word,
+        )?;
         Ok(next)
     }
 
@@ -296,7 +303,7 @@ impl<'w> Rewriting<'w> {
             self.push_text(alloc, "copyright", start, stretch.end(i + 2), blank)?;
             return Ok(i + 3);
         }
-        self.push_text(alloc, text, start, stretch.end(i), blank)?;
+        self.push_text(alloc, utf8_text(text), start, stretch.end(i), blank)?;
         Ok(i + 1)
     }
 

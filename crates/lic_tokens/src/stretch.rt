@@ -1,5 +1,5 @@
 //! The first tokens of lines, by the places where they begin and end.
-ghost use Rattle.std.specs.Prelude.{◌≡◌, ◌<◌, ◌&&◌, not, true, length, drop, take, slice_index, slice_index_or, codes};
+ghost use Rattle.std.specs.Prelude.{◌≡◌, ◌<◌, ◌&&◌, not, true, length, drop, take, slice_index, slice_index_or, codes, IsUtf8};
 ghost use Rattle.lic_columns.specs.PlainLines.{HasWords};
 ghost use Rattle.lic_columns.specs.SpanTokens.{span_tokens, spans_by, token_text};
 ghost use Rattle.lic_lines.specs.Tokens.{is_text};
@@ -12,7 +12,7 @@ use std::marker::Model;
 #[derive(Drop)]
 pub struct Stretch<'a> {
     at: u32,
-    letters: &'a str,
+    letters: &'a [u8],
     starts: &'a [u32],
     ends: &'a [u32],
 }
@@ -36,13 +36,15 @@ impl<'a> Model for Stretch<'a> {
 
 /// The text of the token that has these letters: quotes side by side are one quote, and dashes one dash.
 #[inline(always)]
-fn token_text(letters: &str) -> &str
+fn token_text(letters: &[u8]) -> &[u8]
     requires some { 0 < length letters.now }
+    requires utf8 { IsUtf8 letters.now }
     requires words { HasWords letters.now }
     ensures text { result.now ≡ token_text letters.now }
+    ensures utf8 { IsUtf8 result.now }
     ensures words { HasWords result.now }
 {
-    match letters.as_bytes()[0] {
+    match letters[0] {
         b'\'' | b'-' => &letters[..1],
         _ => letters,
     }
@@ -87,10 +89,11 @@ impl<'a> Stretch<'a> {
 
     /// The letters of the token number `i`.
     #[inline(always)]
-    pub(crate) fn letters_of(&self, i: usize) -> &'a str
+    pub(crate) fn letters_of(&self, i: usize) -> &'a [u8]
         requires { i < length self.now }
         ensures text { (d : _) → token_text result.now ≡ (slice_index_or self.now i d).text }
         ensures some { 0 < length result.now }
+        ensures utf8 { IsUtf8 result.now }
         ensures words { HasWords result.now }
     {
         let start = place(self.starts, i);
@@ -102,9 +105,10 @@ impl<'a> Stretch<'a> {
 
     /// The text of the token number `i`.
     #[inline(always)]
-    pub(crate) fn text(&self, i: usize) -> &'a str
+    pub(crate) fn text(&self, i: usize) -> &'a [u8]
         requires { i < length self.now }
         ensures text { (d : _) → result.now ≡ (slice_index_or self.now i d).text }
+        ensures utf8 { IsUtf8 result.now }
         ensures words { HasWords result.now }
     {
         token_text(self.letters_of(i))
@@ -112,7 +116,7 @@ impl<'a> Stretch<'a> {
 
     /// The letters from the token number `i` on.
     #[inline(always)]
-    pub(crate) fn letters_from(&self, i: usize) -> &'a str
+    pub(crate) fn letters_from(&self, i: usize) -> &'a [u8]
         requires { i < length self.now }
         ensures front { (d : _) → (slice_index_or self.now i d).text
             ≡ take (length (slice_index_or self.now i d).text) result.now }
@@ -155,7 +159,7 @@ impl<'a> Stretch<'a> {
     }
 
     /// Whether it has this text, and no blank comes before it.
-    fn continues(&self, i: usize, text: &str) -> bool
+    fn continues(&self, i: usize, text: &[u8]) -> bool
         requires { i < length self.now }
         ensures { (d : _) → result
             ≡ (is_text text.now (slice_index_or self.now i d)
@@ -174,16 +178,16 @@ impl<'a> Stretch<'a> {
         if self.len() - i < 3 {
             return false;
         }
-        self.continues(i + 1, "c") && self.continues(i + 2, ")")
+        self.continues(i + 1, b"c") && self.continues(i + 2, b")")
     }
 
     /// Whether the token number `i`, which has this text, the next and the one after that are a copyright sign.
     #[inline(always)]
-    pub(crate) fn is_sign(&self, i: usize, text: &str) -> bool
+    pub(crate) fn is_sign(&self, i: usize, text: &[u8]) -> bool
         requires within { i < length self.now }
         requires text { (d : _) → text.now ≡ (slice_index_or self.now i d).text }
         ensures { result ≡ begins_sign (drop i self.now) }
     {
-        "(" == text && self.ends_sign(i)
+        "(".as_bytes() == text && self.ends_sign(i)
     }
 }

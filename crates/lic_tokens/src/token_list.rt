@@ -1,11 +1,9 @@
 //! Tokens as they are kept.
-ghost use Rattle.std.specs.Prelude.{◌≡◌, ◌<◌, ◌++◌, ◌∷◌, [], All, IsUtf8, length, map, slice_index_or, take, IfOk, List, OnOk};
-ghost use Rattle.std.specs.String.{string_bytes};
-ghost use Rattle.lic_phrases.specs.Spelling.{blank_if, is_parted, spelled};
+ghost use Rattle.std.specs.Prelude.{◌≡◌, ◌<◌, ◌++◌, ◌∷◌, [], All, IsUtf8, length, map, slice_index_or, IfOk, List, OnOk};
+ghost use Rattle.lic_phrases.specs.Spelling.{begins_in_word, ends_in_word, spelled};
 ghost use Rattle.lic_phrases.specs.TokenTexts.{IsTokenText};
 ghost use Rattle.lic_phrases.specs.Waiting.{AreKnown, spanned_in};
 
-use crate::rewriting::batch::COPIED;
 use crate::token::{Span, Token};
 use lic_kind::is_word;
 use lic_phrases::{FinalToken, Phrases, begins_in_word, ends_in_word};
@@ -25,52 +23,31 @@ pub(crate) struct Entry {
 /// Tokens, with their texts in canonical spelling.
 #[derive(Debug, Drop)]
 pub struct TokenList {
-    spelling: String,
+    /// In UTF-8.
+    spelling: Vec<u8>,
     entries: Vec<Entry>,
+    /// Whether the spelling ends in a letter of kind Word.
+    after_word: bool,
 }
 
 impl Model for TokenList {
-    ghost use Rattle.std.specs.Prelude.{List};
-    ghost use Rattle.std.specs.String.{string_bytes};
+    ghost use Rattle.std.specs.Prelude.{◌≡◌, List};
+    ghost use Rattle.lic_phrases.specs.Spelling.{ends_in_word};
     ghost use Rattle.lic_tokens.specs.Tokens.{TokenValue};
     ghost use Rattle.lic_tokens.specs.Entries.{entry_values, IsKept};
 
     ghost Value = { List TokenValue };
 
-    ghost view = { λ t. entry_values (string_bytes t.spelling) 0 t.entries.items };
+    ghost view = { λ t. entry_values (t.spelling.items) 0 t.entries.items };
 
-    ghost invariant = { λ t. IsKept (string_bytes t.spelling) t.entries.items
-        (entry_values (string_bytes t.spelling) 0 t.entries.items) };
-}
-
-/// Whether canonical spelling has a blank between these texts and the text of the next token.
-#[inline(never)]
-fn is_parted_beyond_ascii(spelling: &str, text: &str) -> bool
-    ensures { result ≡ is_parted spelling.now text.now }
-{
-    ends_in_word(spelling) & begins_in_word(text)
-}
-
-/// Whether canonical spelling has a blank between these texts and the text of the next token. Mostly the letters that
-/// meet there are of ASCII.
-#[inline(always)]
-fn is_parted(spelling: &str, text: &str) -> bool
-    ensures { result ≡ is_parted spelling.now text.now }
-{
-    let [.., last] = spelling.as_bytes() else {
-        return false;
-    };
-    let [first, ..] = text.as_bytes() else {
-        return false;
-    };
-    if !(last.is_ascii() & first.is_ascii()) {
-        return is_parted_beyond_ascii(spelling, text);
-    }
-    is_word(*last as char) & is_word(*first as char)
+    ghost invariant = { λ t. IsKept t.spelling.items t.entries.items
+        (entry_values t.spelling.items 0 t.entries.items)
+        × (t.after_word ≡ ends_in_word t.spelling.items) };
 }
 
 /// Bytes in UTF-8 as a text.
-fn utf8_text(bytes: &[u8]) -> &str
+#[inline(always)]
+pub fn utf8_text(bytes: &[u8]) -> &str
     requires { IsUtf8 bytes.now }
     ensures { result.now ≡ bytes.now }
 {
@@ -80,51 +57,34 @@ fn utf8_text(bytes: &[u8]) -> &str
     }
 }
 
-/// Adds a text with which these letters begin. Mostly it is short: a copy of a fixed length, of which the end is let go of, takes
-/// less time than one of its length.
+/// Whether a text begins with a letter of kind Word. Mostly it is of ASCII.
 #[inline(always)]
-fn copy_text(spelling: &mut String, text: &str, letters: &str) -> Result<(), AllocError>
-    requires front { text.now ≡ take (length text.now) letters.now }
-    ensures { OnOk result (string_bytes spelling.new ≡ string_bytes spelling.old ++ text.now) }
+fn begins_word(text: &str) -> bool
+    ensures { result ≡ begins_in_word text.now }
 {
-    if text.len() > COPIED || !letters.is_char_boundary(COPIED) {
-        return spelling.push_str(text);
+    let [first, ..] = text.as_bytes() else {
+        return false;
+    };
+    if first.is_ascii() {
+        is_word(*first as char)
+    } else {
+        begins_in_word(text)
     }
-    let end = spelling.len() + text.len();
-    spelling.push_str(&letters[..COPIED])?;
-    spelling.truncate(end);
-    Ok(())
 }
 
-/// Adds a text with which these letters begin, after a blank or not, and then its entry.
+/// Whether a text ends in a letter of kind Word. Mostly it is of ASCII.
 #[inline(always)]
-fn add_front(
-    spelling: &mut String,
-    entries: &mut Vec<Entry>,
-    blank: bool,
-    text: &str,
-    letters: &str,
-    start: u32,
-    end: u32,
-) -> Result<(), AllocError>
-    requires front { text.now ≡ take (length text.now) letters.now }
-    ensures bytes { OnOk result (string_bytes spelling.new ≡ string_bytes spelling.old ++ (blank_if blank ++ text.now)) }
-    ensures entry { OnOk result (entries.new.items ≡ entries.old.items ++ (record {
-      text_end = length (string_bytes spelling.new);
-      start = start;
-      end = end;
-    }) ∷ []) }
+fn ends_word(text: &str) -> bool
+    ensures { result ≡ ends_in_word text.now }
 {
-    if blank {
-        spelling.push(' ')?;
+    let [.., last] = text.as_bytes() else {
+        return false;
+    };
+    if last.is_ascii() {
+        is_word(*last as char)
+    } else {
+        ends_in_word(text)
     }
-    copy_text(spelling, text, letters)?;
-    entries.push(Entry {
-        text_end: spelling.len(),
-        start,
-        end,
-    })?;
-    Ok(())
 }
 
 impl TokenList {
@@ -137,8 +97,9 @@ impl TokenList {
         ensures { result ≡ [] }
     {
         TokenList {
-            spelling: String::new(alloc),
+            spelling: Vec::new(alloc),
             entries: Vec::new(alloc),
+            after_word: false,
         }
     }
 
@@ -150,9 +111,12 @@ impl TokenList {
     ) -> Result<TokenList, AllocError>
         ensures { IfOk result (λ list. list ≡ []) }
     {
+        let spelling = Vec::with_capacity(alloc, bytes)?;
+        let entries = Vec::with_capacity(alloc, tokens)?;
         Ok(TokenList {
-            spelling: String::with_capacity(alloc, bytes)?,
-            entries: Vec::with_capacity(alloc, tokens)?,
+            spelling,
+            entries,
+            after_word: false,
         })
     }
 
@@ -162,6 +126,7 @@ impl TokenList {
     {
         self.spelling.clear();
         self.entries.clear();
+        self.after_word = false;
     }
 
     /// Makes room for so many tokens more, whose texts have so many bytes.
@@ -190,7 +155,36 @@ impl TokenList {
               span = record { start = start; end = end };
             }) ∷ []) }
     {
-        let parted = is_parted(self.spelling.as_str(), text);
+        self.push_bytes(
+            text.as_bytes(),
+            begins_word(text),
+            ends_word(text),
+            start,
+            end,
+        )
+    }
+
+    /// Adds a token whose text, in UTF-8, begins and ends in a letter of kind Word or not.
+    #[inline(always)]
+    pub(crate) fn push_bytes(
+        &mut self,
+        text: &[u8],
+        begins: bool,
+        ends: bool,
+        start: u32,
+        end: u32,
+    ) -> Result<(), AllocError>
+        requires text { IsTokenText text.now }
+        requires utf8 { IsUtf8 text.now }
+        requires begins { begins ≡ begins_in_word text.now }
+        requires ends { ends ≡ ends_in_word text.now }
+        ensures { OnOk result (self.new
+            ≡ self.old ++ (record {
+              text = text.now;
+              span = record { start = start; end = end };
+            }) ∷ []) }
+    {
+        let parted = self.after_word & begins;
         // Memory for the text comes first: once an entry is added, nothing fails.
         self.spelling.reserve(text.len() + 1)?;
         self.entries.push(Entry {
@@ -199,53 +193,40 @@ impl TokenList {
             end,
         })?;
         if parted {
-            self.spelling.push(' ')?;
+            self.spelling.push(b' ')?;
         }
-        self.spelling.push_str(text)?;
+        self.spelling.extend_from_slice(text)?;
+        self.after_word = ends;
         Ok(())
     }
 
-    /// Adds a token with whose text these letters begin. Where memory lacks, the list is empty then.
-    #[inline(always)]
-    pub(crate) fn push_front(
-        &mut self,
-        text: &str,
-        letters: &str,
-        start: u32,
-        end: u32,
-    ) -> Result<(), AllocError>
-        requires text { IsTokenText text.now }
-        requires front { text.now ≡ take (length text.now) letters.now }
-        ensures { OnOk result (self.new
-            ≡ self.old ++ (record {
-              text = text.now;
-              span = record { start = start; end = end };
-            }) ∷ []) }
-    {
-        let blank = is_parted(self.spelling.as_str(), text);
-        let (spelling, entries) = (&mut self.spelling, &mut self.entries);
-        match add_front(spelling, entries, blank, text, letters, start, end) {
-            Ok(()) => Ok(()),
-            Err(error) => {
-                self.spelling.clear();
-                self.entries.clear();
-                Err(error)
-            }
-        }
-    }
-
-    /// Adds tokens that were spelled together after these.
+    /// Adds tokens that were spelled together after these, of which the last ends in a letter of kind Word or not.
     #[inline(never)]
-    pub(crate) fn add(&mut self, bytes: &[u8], entries: &[Entry]) -> Result<(), AllocError>
-        requires { HasSpelled self.old bytes.now entries.now }
+    pub(crate) fn add(
+        &mut self,
+        bytes: &[u8],
+        entries: &[Entry],
+        after_word: bool,
+    ) -> Result<(), AllocError>
+        requires spelled { HasSpelled self.old bytes.now entries.now }
+        requires word { after_word ≡ ends_in_word (spelled (texts_of self.old) ++ bytes.now) }
         ensures { OnOk result ((tokens : List TokenValue)
             → AreSpelledAfter self.old tokens bytes.now entries.now
             → self.new ≡ self.old ++ tokens) }
     {
         self.spelling.reserve(bytes.len())?;
         self.entries.extend_from_slice(entries)?;
-        self.spelling.push_str(utf8_text(bytes))?;
+        self.spelling.extend_from_slice(bytes)?;
+        self.after_word = after_word;
         Ok(())
+    }
+
+    /// Whether the spelling ends in a letter of kind Word.
+    pub(crate) fn after_word(&self) -> bool
+        ensures word { result ≡ ends_in_word (spelled (texts_of self.now)) }
+        ensures utf8 { IsUtf8 (spelled (texts_of self.now)) }
+    {
+        self.after_word
     }
 
     /// Adds tokens as the rewriting gives them.
@@ -268,10 +249,17 @@ impl TokenList {
 
     /// The texts in canonical spelling: one blank between two letters of kind Word that belong to different tokens, and none
     /// elsewhere.
-    pub fn spelled(&self) -> &str
+    pub fn spelled(&self) -> &[u8]
         ensures { result.now ≡ spelled (texts_of self.now) }
     {
-        self.spelling.as_str()
+        self.spelling.as_slice()
+    }
+
+    /// The same as a text.
+    pub fn spelled_text(&self) -> &str
+        ensures { result.now ≡ spelled (texts_of self.now) }
+    {
+        utf8_text(&self.spelling)
     }
 
     /// Where the text of the token number `i` begins in the canonical spelling.
@@ -284,7 +272,7 @@ impl TokenList {
             return 0;
         }
         let end = self.entries[i - 1].text_end;
-        if self.spelling.as_bytes()[end] == b' ' {
+        if self.spelling[end] == b' ' {
             end + 1
         } else {
             end
@@ -304,6 +292,19 @@ impl TokenList {
         }
     }
 
+    /// The bytes of the source of the token number `i`, from 0.
+    #[inline(always)]
+    pub fn span(&self, i: usize) -> Span
+        requires { i < length self.now }
+        ensures { (d : _) → result ≡ (slice_index_or self.now i d).span }
+    {
+        let entry = self.entries[i];
+        Span {
+            start: entry.start as usize,
+            end: entry.end as usize,
+        }
+    }
+
     /// The token number `i`, from 0.
     pub fn get(&self, i: usize) -> Token<'_>
         requires { i < length self.now }
@@ -311,13 +312,9 @@ impl TokenList {
         ensures span { (d : _) → result.span ≡ (slice_index_or self.now i d).span }
     {
         let Span { start, end } = self.place(i);
-        let entry = self.entries[i];
         Token {
-            text: &self.spelling.as_str()[start..end],
-            span: Span {
-                start: entry.start as usize,
-                end: entry.end as usize,
-            },
+            text: utf8_text(&self.spelling[start..end]),
+            span: self.span(i),
         }
     }
 

@@ -10,8 +10,8 @@ ghost use Rattle.lic_view.specs.Views.{AreSpelledFrom, IsFirstFrom, IsWordByte};
 
 use crate::last_letter::last_letter;
 use lic_kind::is_word;
-use lic_norm::Text;
 use lic_norm::laws::{tokens_are_token_texts, tokens_are_utf8};
+use lic_norm::{Text, utf8_text};
 use std::marker::Model;
 
 /// Tokens of a text that follow one another, in canonical spelling. A place is a number of bytes of it.
@@ -242,7 +242,7 @@ fn spelled_from(text: &Text, first: usize, count: usize) -> (usize, &str)
     }
     let start = text.place(first).start;
     let end = text.place(first + count - 1).end;
-    (start, &text.spelled()[start..end])
+    (start, utf8_text(&text.spelled()[start..end]))
 }
 
 /// The texts of tokens are in UTF-8, and none is empty.

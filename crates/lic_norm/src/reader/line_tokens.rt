@@ -15,7 +15,6 @@ use lic_columns::Lines;
 use lic_lines::{Rules, left_of_line};
 use lic_tokens::{Batch, PartBuffers, Rewriting, Stretch};
 use lic_trim::{LinePart, SourceChar};
-use simdutf8::compat::from_utf8;
 use std::alloc::{AllocError, Global};
 use std::fmt;
 
@@ -25,18 +24,6 @@ const WHOLE_LINE: LinePart = LinePart {
     has_end: true,
     past: None,
 };
-
-/// These bytes as a text, where all of them are ASCII.
-pub fn ascii_text(bytes: &[u8]) -> Option<&str>
-    ensures utf8 { IfSome result (λ text. IsUtf8 text.now) }
-    ensures same { IfSome result (λ text. text.now ≡ bytes.now) }
-    ensures ascii { IfSome result (λ text. IsAscii text.now) }
-{
-    if !bytes.is_ascii() {
-        return None;
-    }
-    from_utf8(bytes).ok()
-}
 
 /// At most so many characters of a buffer are kept from one line to the next.
 const MAX_KEPT: usize = 65_536;
@@ -136,7 +123,7 @@ pub fn take_ascii(
     alloc: Global,
     rules: &Rules,
     at: u32,
-    text: &str,
+    text: &[u8],
     buffers: &mut LineBuffers,
     rewriting: &mut Rewriting<'_>,
 ) -> Result<usize, AllocError>

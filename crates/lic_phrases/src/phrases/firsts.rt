@@ -1,6 +1,6 @@
 //! How many tokens a phrase has at most, by the text that it begins with.
-ghost use Rattle.std.specs.Prelude.{◌≡◌, ◌<◌, ◌∷◌, ℕ, List, length, min, reverse, slice_index, true, unwrap_or};
-ghost use Rattle.indexmap.specs.IndexMap.{get_by_text};
+ghost use Rattle.std.specs.Prelude.{◌≡◌, ◌<◌, ◌∷◌, ℕ, List, bytes_eq, length, min, reverse, slice_index, true, unwrap_or};
+ghost use Rattle.indexmap.specs.IndexMap.{get_by};
 ghost use Rattle.lic_trim.specs.PieceLengths.{has_bit};
 ghost use Rattle.lic_phrases.specs.FirstTexts.{may_have, HasAll, HasAllEnds, HasOthers};
 
@@ -19,37 +19,35 @@ const TWO_AND_MORE: u64 = u64::MAX - 3;
 /// For each text that begins a phrase, how many tokens such a phrase has at most.
 #[derive(Drop)]
 pub(crate) struct Firsts {
-    most: IndexMap<String, usize>,
+    most: IndexMap<Vec<u8>, usize>,
     /// A prefilter: for each first byte, how long the texts are that begin with it, a bit for each length. It has those of texts
     /// that begin a phrase, and those that are not plain.
     lengths: [u64; BYTES],
     /// The same for each last byte, with texts that begin a phrase alone.
     ends: [u64; BYTES],
-    ghost all: { HasAll lengths (λ text. unwrap_or (get_by_text most text) 0) },
+    ghost all: { HasAll lengths (λ text. unwrap_or (get_by (λ k. bytes_eq text k.items) most) 0) },
     ghost others: { HasOthers lengths },
-    ghost all_ends: { HasAllEnds ends (λ text. unwrap_or (get_by_text most text) 0) },
+    ghost all_ends: { HasAllEnds ends (λ text. unwrap_or (get_by (λ k. bytes_eq text k.items) most) 0) },
 }
 
 /// Whether there is a bit for the first byte of this text and its length.
 #[inline(always)]
-fn may_have(lengths: &[u64; BYTES], text: &str) -> bool
+fn may_have(lengths: &[u64; BYTES], text: &[u8]) -> bool
     requires { 0 < length text.now }
     ensures { result ≡ may_have lengths.now text.now }
 {
-    let bytes = text.as_bytes();
-    (lengths[bytes[0] as usize] >> bytes.len().min(LONG)) & 1 == 1
+    (lengths[text[0] as usize] >> text.len().min(LONG)) & 1 == 1
 }
 
 /// Adds a bit for the first byte of this text and its length.
-fn add(lengths: &mut [u64; BYTES], text: &str)
+fn add(lengths: &mut [u64; BYTES], text: &[u8])
     ensures added { may_have lengths.new text.now ≡ true }
     ensures grows { (t : List ℕ) → may_have lengths.old t ≡ true → may_have lengths.new t ≡ true }
 {
-    let bytes = text.as_bytes();
-    if bytes.is_empty() {
+    if text.is_empty() {
         return;
     }
-    lengths[bytes[0] as usize] |= 1 << bytes.len().min(LONG);
+    lengths[text[0] as usize] |= 1 << text.len().min(LONG);
 }
 
 /// Whether there is a bit for this byte and so many bytes.
@@ -62,24 +60,22 @@ fn has(table: &[u64; BYTES], byte: u8, len: usize) -> bool
 
 /// Whether there is a bit for the last byte of this text and its length.
 #[inline(always)]
-fn may_end(ends: &[u64; BYTES], text: &str) -> bool
+fn may_end(ends: &[u64; BYTES], text: &[u8]) -> bool
     requires { 0 < length text.now }
     ensures { result ≡ may_have ends.now (reverse text.now) }
 {
-    let bytes = text.as_bytes();
-    has(ends, bytes[bytes.len() - 1], bytes.len())
+    has(ends, text[text.len() - 1], text.len())
 }
 
 /// Adds a bit for the last byte of this text and its length.
-fn add_end(ends: &mut [u64; BYTES], text: &str)
+fn add_end(ends: &mut [u64; BYTES], text: &[u8])
     ensures added { may_have ends.new (reverse text.now) ≡ true }
     ensures grows { (t : List ℕ) → may_have ends.old t ≡ true → may_have ends.new t ≡ true }
 {
-    let bytes = text.as_bytes();
-    if bytes.is_empty() {
+    if text.is_empty() {
         return;
     }
-    ends[bytes[bytes.len() - 1] as usize] |= 1 << bytes.len().min(LONG);
+    ends[text[text.len() - 1] as usize] |= 1 << text.len().min(LONG);
 }
 
 /// Adds all bits for a first byte but that of this byte alone.
@@ -97,9 +93,9 @@ fn no_lengths() -> [u64; BYTES]
     let mut lengths = [0; BYTES];
     add_longer(&mut lengths, b'\'');
     add_longer(&mut lengths, b'-');
-    add(&mut lengths, "(");
-    add(&mut lengths, "copyright");
-    add(&mut lengths, "https");
+    add(&mut lengths, b"(");
+    add(&mut lengths, b"copyright");
+    add(&mut lengths, b"https");
     lengths
 }
 
@@ -125,7 +121,7 @@ impl Firsts {
     pub(crate) fn raise(
         &mut self,
         alloc: Global,
-        text: &str,
+        text: &[u8],
         count: usize,
     ) -> Result<(), AllocError>
         requires { count ≤ 8 }
@@ -133,7 +129,7 @@ impl Firsts {
         ensures err { OnErr result (IsUnchanged self.old.most self.new.most) }
     {
         let most = self.listed(text).max(count);
-        let first = String::from_str(alloc, text)?;
+        let first = Vec::from_slice(alloc, text)?;
         self.most.insert(first, most)?;
         add(&mut self.lengths, text);
         add_end(&mut self.ends, text);
@@ -142,7 +138,7 @@ impl Firsts {
 
     /// How many tokens a phrase has at most that begins with this text.
     #[inline(never)]
-    fn listed(&self, text: &str) -> usize
+    fn listed(&self, text: &[u8]) -> usize
         ensures { result ≡ bound_from self.now text.now }
     {
         self.most.get(text).copied().unwrap_or(0)
@@ -150,7 +146,7 @@ impl Firsts {
 
     /// The same, where mostly the first byte and the length or the last byte and the length have the answer.
     #[inline(always)]
-    pub(crate) fn most_from(&self, text: &str) -> usize
+    pub(crate) fn most_from(&self, text: &[u8]) -> usize
         ensures { result ≡ bound_from self.now text.now }
     {
         if self.most.is_empty() {
@@ -167,7 +163,7 @@ impl Firsts {
 
     /// Whether the prefilter alone says that this text is plain and begins no phrase.
     #[inline(always)]
-    pub(crate) fn is_plain(&self, text: &str) -> bool
+    pub(crate) fn is_plain(&self, text: &[u8]) -> bool
         requires { 0 < length text.now }
         ensures plain { IsTrue result → IsPlain text.now }
         ensures none { IsTrue result → bound_from self.now text.now ≡ 0 }

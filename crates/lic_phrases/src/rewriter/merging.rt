@@ -132,7 +132,7 @@ pub(crate) fn give_known(
         → OnOk result (AreKnown (length phrases.now.spellings) output.new.items) }
 {
     while let Some(first) = waiting.front() {
-        let most = phrases.most_from(first.text.as_str());
+        let most = phrases.most_from(first.text.as_str().as_bytes());
         if !at_end && waiting.len() < most {
             break;
         }
@@ -176,7 +176,7 @@ pub(crate) fn take_token(
         → OnOk result (AreKnown (length phrases.now.spellings) output.new.items) }
 {
     // Most tokens begin no phrase, and none waits before them.
-    if waiting.is_empty() && phrases.most_from(token.text.as_str()) == 0 {
+    if waiting.is_empty() && phrases.most_from(token.text.as_str().as_bytes()) == 0 {
         return give_alone(token, output);
     }
     waiting.push_back(token)?;

@@ -1,6 +1,6 @@
 //! Plain tokens of lines that are spelled together.
 ghost use Rattle.std.specs.Prelude.{◌≡◌, ◌+◌, ◌++◌, ◌^◌, ◌≤◌, ◌<◌, false, length, drop, slice_index, slice_index_or, take};
-ghost use Rattle.std.specs.Prelude.{IfSome};
+ghost use Rattle.std.specs.Prelude.{IfSome, IsUtf8};
 ghost use Rattle.lic_columns.specs.Bytes.{is_word};
 ghost use Rattle.lic_columns.specs.PlainLines.{HasWords};
 ghost use Rattle.lic_phrases.specs.Settling.{IsLeft, nothing_kept};
@@ -14,7 +14,7 @@ use crate::rewriting::Rewriting;
 use crate::stretch::Stretch;
 use crate::token_list::Entry;
 use crate::word_bytes::is_word_byte;
-use lic_phrases::{Phrases, Rewriter, ends_in_word};
+use lic_phrases::{Phrases, Rewriter};
 
 /// So many letters are copied at once.
 pub(crate) const COPIED: usize = 16;
@@ -77,19 +77,20 @@ fn put(bytes: &mut [u8; BYTES], place: usize, blank: bool, letters: &[u8], len: 
 
 /// Whether this byte of a text is of a word: those beyond ASCII are.
 #[inline(always)]
-fn is_word_at(text: &str, i: usize) -> bool
+pub(crate) fn is_word_at(text: &[u8], i: usize) -> bool
     requires { i < length text.now }
     ensures { result ≡ is_word (slice_index text.now i) }
 {
-    is_word_byte(text.as_bytes()[i])
+    is_word_byte(text[i])
 }
 
 /// The text of the token number `i` of lines, if it is plain: no copyright sign begins there, and where the rewriter keeps
 /// none back, it leaves the token as it is. Mostly the first letter and the length say so.
 #[inline(always)]
-pub(crate) fn plain_text<'a>(phrases: &Phrases, stretch: &Stretch<'a>, i: usize) -> Option<&'a str>
+pub(crate) fn plain_text<'a>(phrases: &Phrases, stretch: &Stretch<'a>, i: usize) -> Option<&'a [u8]>
     requires { i < length stretch.now }
     ensures text { IfSome result (λ text. (d : _) → text.now ≡ (slice_index_or stretch.now i d).text) }
+    ensures utf8 { IfSome result (λ text. IsUtf8 text.now) }
     ensures words { IfSome result (λ text. HasWords text.now) }
     ensures no_sign { IfSome result (λ text. begins_sign (drop i stretch.now) ≡ false) }
     ensures left { IfSome result (λ text. IsLeft phrases.now.phrases text.now) }
@@ -103,9 +104,10 @@ pub(crate) fn plain_text<'a>(phrases: &Phrases, stretch: &Stretch<'a>, i: usize)
 
 /// The same by the text.
 #[inline(never)]
-fn plain_after_look<'a>(phrases: &Phrases, stretch: &Stretch<'a>, i: usize) -> Option<&'a str>
+fn plain_after_look<'a>(phrases: &Phrases, stretch: &Stretch<'a>, i: usize) -> Option<&'a [u8]>
     requires { i < length stretch.now }
     ensures text { IfSome result (λ text. (d : _) → text.now ≡ (slice_index_or stretch.now i d).text) }
+    ensures utf8 { IfSome result (λ text. IsUtf8 text.now) }
     ensures words { IfSome result (λ text. HasWords text.now) }
     ensures no_sign { IfSome result (λ text. begins_sign (drop i stretch.now) ≡ false) }
     ensures left { IfSome result (λ text. IsLeft phrases.now.phrases text.now) }
@@ -132,13 +134,12 @@ pub(crate) fn spell(
     ensures few { result.next ≤ i + TOKENS }
     ensures held { AreInBatch stretch.now i rewriting.now batch.new result }
 {
-    let spelled = rewriting.tokens.spelled();
-    let before = spelled.len();
+    let before = rewriting.tokens.spelled().len();
     let last = i + (stretch.len() - i).min(TOKENS);
     let mut state = Spelled {
         next: i,
         place: 0,
-        after_word: ends_in_word(spelled),
+        after_word: rewriting.tokens.after_word(),
     };
     while state.next < last {
         state = spell_plain(rewriting, stretch, i, last, before, state, batch);
@@ -202,8 +203,8 @@ fn put_token(
     stretch: &Stretch<'_>,
     i: usize,
     before: usize,
-    text: &str,
-    letters: &str,
+    text: &[u8],
+    letters: &[u8],
     state: Spelled,
     batch: &mut Batch,
 ) -> Spelled
@@ -219,6 +220,7 @@ fn put_token(
     requires short { length text.now ≤ COPIED }
     requires front { text.now ≡ take (length text.now) letters.now }
     requires wide { COPIED ≤ length letters.now }
+    requires utf8 { IsUtf8 text.now }
     requires words { HasWords text.now }
     requires no_sign { begins_sign (drop state.next stretch.now) ≡ false }
     requires left { IsLeft rewriting.now.phrases.now.phrases text.now }
@@ -227,13 +229,7 @@ fn put_token(
 {
     let next = state.next;
     let blank = state.after_word & is_word_at(text, 0);
-    let place = put(
-        &mut batch.bytes,
-        state.place,
-        blank,
-        letters.as_bytes(),
-        text.len(),
-    );
+    let place = put(&mut batch.bytes, state.place, blank, letters, text.len());
     batch.entries[next - i] = Entry {
         text_end: before + place,
         start: stretch.start(next),

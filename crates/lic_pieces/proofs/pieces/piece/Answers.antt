@@ -37,9 +37,9 @@ returns-clause-letters c =
     let texts = texts_by words _ taken.0 first c.in_ok-tokens.tokens (c.in_ok-tokens.ensures taken.0 taken.1) c.in_ok-edges.ensures.phrases taken.2 in
     let cells = piece_cells rules c.args.at_line_start c.args.before c.args.text.now in
     IfOk-weaker c.with_edges.result
-    (λ (edged : String Global). string_bytes edged ≡ with_edges cells c.spelled.result.now)
+    (λ (edged : String Global). string_bytes edged ≡ with_edges cells c.spelled_text.result.now)
     (λ (edged : String Global). string_bytes edged ≡ piece_of rules words c.args.at_line_start c.args.before c.args.text.now)
-    (λ edged told. told ∙ ap (λ l. with_edges cells l) (c.spelled.ensures ∙ ap spelled texts))
+    (λ edged told. told ∙ ap (λ l. with_edges cells l) (c.spelled_text.ensures ∙ ap spelled texts))
     (c.with_edges.ensures cells c.in_ok-edges.ensures.edges)
 
 pub returns-clause-token_texts : goal.returns-clause-token_texts

@@ -1,8 +1,8 @@
-use Rattle.std.proofs.Common.{◌≡◌, ◌≤◌, ◌-◌, List, ℕ, length, take, drop, get_or, ap, ap₂, sym, subst, ◌∙◌}
+use Rattle.std.proofs.Common.{◌≡◌, ◌≤◌, ◌-◌, List, ℕ, length, take, drop, get_or, ap, ap₂, sym, subst, ◌∙◌, arith}
 use Rattle.lic_phrases.specs.Spelling.{spelled}
 use Rattle.lic_norm.specs.Places.{place_start, texts_of}
 use Rattle.lic_report.specs.Report.{no_token}
-use Rattle.lic_report.proofs.TokenLemmas.{letters, start-fits, text-fits, text-taken, line-is}
+use Rattle.lic_report.proofs.TokenLemmas.{letters, start-fits, text-fits, text-long, text-taken, line-is}
 use Rattle.lic_report.proofs.lines.add_token.Goals as goal
 
 -- the bytes from the token on, by what the calls answered
@@ -12,26 +12,33 @@ part_is bytes spelling start place e s = ap₂ (λ b n. take (length b - n) (dro
 
 pub slice_bounds-letters-count : goal.slice_bounds-letters-count
 slice_bounds-letters-count c =
-    let e : c.as_bytes.result.now ≡ spelled (texts_of c.args.text.now.tokens) = c.as_bytes.ensures.value ∙ c.spelled.ensures in
-    subst (λ n. n ≤ length c.as_bytes.result.now) (sym c.place-start.ensures.start)
-    (subst (λ b. place_start c.args.text.now.tokens c.args.i ≤ length b) (sym e)
+    subst (λ n. n ≤ length c.spelled.result.now) (sym c.place-start.ensures.start)
+    (subst (λ b. place_start c.args.text.now.tokens c.args.i ≤ length b) (sym c.spelled.ensures)
     (start-fits c.args.text.now.tokens c.args.i no_token c.requires))
 
 pub slice_bounds-letters-start : goal.slice_bounds-letters-start
 slice_bounds-letters-start c = slice_bounds-letters-count c
 
+pub overflow_sub-len : goal.overflow_sub-len
+overflow_sub-len c = omega (arith, c.place-start.ensures.start, c.place-start.ensures.end, text-long c.args.text.now.tokens c.args.i no_token c.requires)
+
 pub add_front-requires : goal.add_front-requires
 add_front-requires c =
-    let e : c.as_bytes.result.now ≡ spelled (texts_of c.args.text.now.tokens) = c.as_bytes.ensures.value ∙ c.spelled.ensures in
-    subst (λ l. length c.token-token.result.text.now ≤ length l) (sym (part_is _ _ _ _ e c.place-start.ensures.start))
-    (subst (λ t. length t ≤ length (letters c.args.text.now.tokens c.args.i no_token c.requires)) (sym (c.token-token.ensures.text no_token))
-    (text-fits c.args.text.now.tokens c.args.i no_token c.requires))
+    let tokens = c.args.text.now.tokens in
+    let text = (get_or tokens c.args.i no_token).text in
+    let long : c.place-start.result.end - c.place-start.result.start ≡ length text =
+    omega (arith, c.place-start.ensures.start, c.place-start.ensures.end, text-long tokens c.args.i no_token c.requires) in
+    subst (λ (l : List ℕ). c.place-start.result.end - c.place-start.result.start ≤ length l)
+    (sym (part_is _ _ _ _ c.spelled.ensures c.place-start.ensures.start))
+    (subst (λ n. n ≤ length (letters tokens c.args.i no_token c.requires)) (sym long) (text-fits tokens c.args.i no_token c.requires))
 
 pub returns-clause-line : goal.returns-clause-line
 returns-clause-line c name file =
-    let e : c.as_bytes.result.now ≡ spelled (texts_of c.args.text.now.tokens) = c.as_bytes.ensures.value ∙ c.spelled.ensures in
-    let part = part_is _ _ _ _ e c.place-start.ensures.start in
-    let n : length c.token-token.result.text.now ≡ length (get_or c.args.text.now.tokens c.args.i no_token).text = ap length (c.token-token.ensures.text no_token) in
-    line-is c.args.lines.now.items c.args.front.now _ _ name _ c.token-token.result.span (get_or c.args.text.now.tokens c.args.i no_token) _ file
-    c.in_ok-add.ensures.line c.in_ok-add_front.ensures (c.token-token.ensures.span no_token)
-    (ap₂ take n part ∙ text-taken c.args.text.now.tokens c.args.i no_token c.requires)
+    let tokens = c.args.text.now.tokens in
+    let part = part_is _ _ _ _ c.spelled.ensures c.place-start.ensures.start in
+    let text = (get_or tokens c.args.i no_token).text in
+    let long : c.place-start.result.end - c.place-start.result.start ≡ length text =
+    omega (arith, c.place-start.ensures.start, c.place-start.ensures.end, text-long tokens c.args.i no_token c.requires) in
+    line-is c.args.lines.now.items c.args.front.now _ _ name _ c.span.result (get_or tokens c.args.i no_token) _ file
+    c.in_ok-add.ensures.line c.in_ok-add_front.ensures (c.span.ensures no_token)
+    (ap₂ take long part ∙ text-taken tokens c.args.i no_token c.requires)

@@ -1,12 +1,10 @@
-use Rattle.std.proofs.Common.{◌≡◌, ◌++◌, ℕ, length, take, sym, ap, ap₂, subst, ◌∙◌}
-use Rattle.std.specs.Prelude.{IsUtf8, string_bytes}
+use Rattle.std.proofs.Common.{◌≡◌, ℕ, length, take, sym, ap, ap₂, subst, ◌∙◌}
 use Rattle.lic_kind.specs.LineRules.{rules_of}
 use Rattle.lic_columns.specs.Cells.{starts_of, ends_of}
 use Rattle.lic_columns.specs.Known.{Known, IsText, known_of}
 use Rattle.lic_columns.specs.Marks.{HaveLetters}
 use Rattle.lic_columns.specs.Tokens.{text_spans}
 use Rattle.lic_columns.proofs.FrontLines.{is_text, have_letters, have_tokens}
-use Rattle.lic_columns.proofs.PlainLines.{none_plain}
 use Rattle.lic_columns.proofs.lines.Lines.read_front.Goals as goal
 
 pub list_tokens-requires-clause-text : goal.list_tokens-requires-clause-text
@@ -23,9 +21,6 @@ list_tokens-requires-clause-letters c =
     let known : c.read.new.self ≡ known_of spelled = c.in_ok-read.ensures ∙ ap known_of c.deref.ensures.value in
     subst (λ (k : Known). HaveLetters lines k.letters k.mark) (sym known) (have_letters lines spelled c.in_ok-end.ensures.spelled)
 
-pub returns-in_default-clause-lines : goal.returns-in_default-clause-lines
-returns-in_default-clause-lines c = none_plain (rules_of c.args.rules.now)
-
 pub returns-clause-tokens : goal.returns-clause-tokens
 returns-clause-tokens c = λ some.
     let rules = rules_of c.args.rules.now in
@@ -33,12 +28,8 @@ returns-clause-tokens c = λ some.
     let lines = take c.in_ok-end.end c.args.bytes.now in
     let spelled = c.spell_lines.new.spelled.items in
     let known : c.read.new.self ≡ known_of spelled = c.in_ok-read.ensures ∙ ap known_of c.deref.ensures.value in
-    let letters = string_bytes c.push_str.new.self in
-    let put : letters ≡ c.letters.result.now =
-    c.in_ok-push_str.ensures.bytes ∙ ap (λ l. l ++ c.in-Ok.letters.now) c.clear.ensures.bytes ∙ c.in-Ok.ensures.cases.0 in
     have_tokens lines spelled c.in_ok-end.ensures.spelled rules at c.in_ok-end.ensures.plain
-    letters c.list_tokens.new.starts c.list_tokens.new.ends
-    (subst IsUtf8 (sym put) c.in-Ok.ensures.cases.1)
-    (put ∙ c.letters.ensures ∙ ap (λ (k : Known). k.letters) known)
+    c.read.new.self.letters c.list_tokens.new.starts c.list_tokens.new.ends
+    (ap (λ (k : Known). k.letters) known)
     (c.in_ok-list_tokens.ensures.starts ∙ ap₂ (λ s k. starts_of (text_spans s at lines k)) c.separators.ensures known)
     (c.in_ok-list_tokens.ensures.ends ∙ ap₂ (λ s k. ends_of (text_spans s at lines k)) c.separators.ensures known)

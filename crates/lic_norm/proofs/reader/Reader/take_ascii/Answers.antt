@@ -1,4 +1,4 @@
-use Rattle.std.proofs.Common.{◌++◌, ◌-◌, ap, subst, ◌∙◌, length, take, drop, length-take, length-drop, arith}
+use Rattle.std.proofs.Common.{◌++◌, ◌-◌, ap, subst, ◌∙◌, take, drop, length-take, length-drop, arith}
 use Rattle.lic_kind.specs.LineRules.{rules_of}
 use Rattle.lic_tokens.specs.Taking.{HasTaken}
 use Rattle.lic_norm.specs.Tokens.{first_tokens_of}
@@ -12,7 +12,6 @@ take_ascii-requires-clause-fits c =
     let at = c.args.self.now.line_start in
     omega (
       arith,
-      ap length c.in-Some.ensures.same,
       length-take (c.args.end - at) (drop at here),
       length-drop at here,
       c.if-end-gt-MAX_BYTES.false,
@@ -29,6 +28,6 @@ returns-clause-taken c = λ _.
     let rules = rules_of old.rules.now in
     let before = first_tokens_of rules 0 (take at source) in
     subst (HasTaken c.take_ascii.new.rewriting)
-    (ap (λ l. before ++ first_tokens_of rules at l) (c.in-Some.ensures.same ∙ ap (λ l. slice_range l at end) c.deref.ensures.value)
+    (ap (λ l. before ++ first_tokens_of rules at l) (ap (λ l. slice_range l at end) c.deref.ensures.value)
     ∙ more_bytes rules source at end known.read.lines known.order known.within)
     (c.in_ok-take_ascii.ensures.taken before known.read.taken)

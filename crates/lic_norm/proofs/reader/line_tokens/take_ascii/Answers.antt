@@ -24,7 +24,7 @@ returns-then-text-gt-MAX_KEPT-clause-taken c = λ taken has.
     let rules = rules_of c.args.rules.now in
     subst (λ ts. HasTaken c.take_stretch.new.self (taken ++ ts))
     (ap single_signs (c.of-stretch.ensures ∙ c.in_ok-read.ensures.tokens)
-    ∙ first_tokens_of-ascii rules c.args.at c.args.text.now c.utf8.text c.requires.ascii)
+    ∙ first_tokens_of-ascii rules c.args.at c.args.text.now c.requires.ascii)
     (c.in_ok-take_stretch.ensures.taken taken has)
 
 pub returns-then-text-gt-MAX_KEPT-clause-count : goal.returns-then-text-gt-MAX_KEPT-clause-count
@@ -35,7 +35,7 @@ returns-else-text-gt-MAX_KEPT-clause-taken c = λ taken has.
     let rules = rules_of c.args.rules.now in
     subst (λ ts. HasTaken c.take_stretch.new.self (taken ++ ts))
     (ap single_signs (c.of-stretch.ensures ∙ c.in_ok-read.ensures.tokens)
-    ∙ first_tokens_of-ascii rules c.args.at c.args.text.now c.utf8.text c.requires.ascii)
+    ∙ first_tokens_of-ascii rules c.args.at c.args.text.now c.requires.ascii)
     (c.in_ok-take_stretch.ensures.taken taken has)
 
 pub returns-else-text-gt-MAX_KEPT-clause-count : goal.returns-else-text-gt-MAX_KEPT-clause-count

@@ -24,12 +24,12 @@ invariant_of-self-2 c =
     let known : c.args.class < length spellings = omega (arith, c.requires.known, ap (λ v. length v.spellings) c.self.view_is) in
     let entry = IsEntry-key_of (length spellings) key.items texts c.args.class none is_key_of
     (omega (arith, as_many, c.requires.some)) (omega (arith, as_many, c.requires.few)) known in
-    let first = c.as_str.result.now in
+    let first = c.as_bytes.result.now in
     let count = length c.args.texts.now in
     let first_is : get_or (key_texts key.items) 0 first ≡ first =
     ap (λ l. get_or l 0 first) back
     ∙ get_or-map string_bytes c.args.texts.now 0 c.index-texts-0.result first c.requires.some
-    ∙ ap string_bytes (sym c.index-texts-0.is) ∙ sym c.as_str.ensures.value in
+    ∙ ap string_bytes (sym c.index-texts-0.is) ∙ sym c.as_bytes.ensures.value in
     let raised = c.in_ok-raise.ensures.raised in
     subst (λ entries. IsStored (λ k. k.items) entries spellings new) (sym c.in_ok-insert.ensures.entries)
     (IsStored-entry (λ k. k.items) fields.classes.entries spellings new key c.args.class
@@ -44,7 +44,7 @@ invariant_of-self-in_err-insert c =
     let old = bound_from fields.most_from in
     let new = bound_from c.raise.new.self in
     subst (λ entries. IsStored (λ k. k.items) entries spellings new) (sym c.in_err-insert.ensures.err)
-    (IsStored-raised (λ k. k.items) fields.classes.entries spellings c.as_str.result.now (length c.args.texts.now) old new c.in_ok-raise.ensures.raised
+    (IsStored-raised (λ k. k.items) fields.classes.entries spellings c.as_bytes.result.now (length c.args.texts.now) old new c.in_ok-raise.ensures.raised
     c.self.invariant)
 
 pub returns-clause-added : goal.returns-clause-added

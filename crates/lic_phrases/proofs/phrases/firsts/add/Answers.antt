@@ -1,7 +1,6 @@
 -- The bit of one more text.
-use Rattle.std.proofs.Common.{◌≡◌, ◌==◌, ◌<◌, ◌∙◌, ℕ, zero, suc, true, false, length, get_or, sym, ap, subst, arith}
-use Rattle.lic_phrases.specs.FirstTexts.{may_have}
-use Rattle.lic_phrases.proofs.FirstsLemmas.{with_bit, may_have-added, may_have-grows}
+use Rattle.std.proofs.Common.{◌≡◌, ◌==◌, ◌<◌, ◌∙◌, ℕ, zero, suc, true, false, length, get_or, sym, arith}
+use Rattle.lic_phrases.proofs.FirstsLemmas.{may_have-added, may_have-grows}
 use Rattle.lic_phrases.proofs.phrases.firsts.add.Goals as goal
 
 not_empty : (n : ℕ) → (n == 0) ≡ false → 0 < n
@@ -10,14 +9,12 @@ not_empty (suc n) some = omega arith
 
 pub returns-clause-added : goal.returns-clause-added
 returns-clause-added c =
-    let bytes = c.as_bytes-bytes.result.now in
-    let some : 0 < length bytes = not_empty (length bytes) (sym c.is_empty.ensures ∙ c.if-is_empty.false) in
-    let first : get_or bytes 0 0 < 256 = omega (arith, (c.type_inv.text 0).fits, ap (λ l. get_or l 0 0) c.as_bytes-bytes.ensures.value) in
-    subst (λ text. may_have (with_bit c.args.lengths.now (get_or bytes 0 0) c.min.result) text ≡ true) c.as_bytes-bytes.ensures.value
-    (may_have-added c.args.lengths.now bytes c.min.result some (omega (arith, first)) (omega arith))
+    let text = c.args.text.now in
+    let some : 0 < length text = not_empty (length text) (sym c.is_empty.ensures ∙ c.if-is_empty.false) in
+    let first : get_or text 0 0 < 256 = omega (arith, (c.type_inv.text 0).fits) in
+    may_have-added c.args.lengths.now text c.min.result some (omega (arith, first)) (omega arith)
 
 pub returns-clause-grows : goal.returns-clause-grows
 returns-clause-grows c =
-    let bytes = c.as_bytes-bytes.result.now in
-    let first : get_or bytes 0 0 < 256 = omega (arith, (c.type_inv.text 0).fits, ap (λ l. get_or l 0 0) c.as_bytes-bytes.ensures.value) in
-    may_have-grows c.args.lengths.now (get_or bytes 0 0) c.min.result (omega (arith, first)) (omega arith)
+    let first : get_or c.args.text.now 0 0 < 256 = omega (arith, (c.type_inv.text 0).fits) in
+    may_have-grows c.args.lengths.now (get_or c.args.text.now 0 0) c.min.result (omega (arith, first)) (omega arith)

@@ -13,5 +13,5 @@ returns c = λ zero settled taken token text before.
     let bound : longest_from words token.text ≤ c.most_from.result =
     subst (λ l. longest_from words l ≤ c.most_from.result) (sym text) c.most_from.ensures.bound in
     let bound' : longest_from words token.text ≤ 0 = omega arith in
-    Settles-alone words token settled taken (ap (bytes_eq (codes "copyright")) text ∙ sym c.eq.ensures ∙ c.if-eq.false)
-    (ap (bytes_eq (codes "https")) text ∙ sym c.eq-else-eq.ensures ∙ c.if-eq-2.false) c.most_from.ensures.some bound' before
+    Settles-alone words token settled taken (ap (bytes_eq (codes "copyright")) text ∙ sym (c.eq.ensures ∙ ap (λ l. bytes_eq l c.args.text.now) c.as_bytes.ensures.value) ∙ c.if-eq.false)
+    (ap (bytes_eq (codes "https")) text ∙ sym (c.eq-else-eq.ensures ∙ ap (λ l. bytes_eq l c.args.text.now) c.as_bytes-else-eq.ensures.value) ∙ c.if-eq-2.false) c.most_from.ensures.some bound' before

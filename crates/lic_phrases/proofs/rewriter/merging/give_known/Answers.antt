@@ -16,7 +16,7 @@ loop-first-preserved c =
     let first = c.in-Some.first.now in
     let most : ℕ = c.most_from-most.result in
     let bound : longest_from list.phrases (small_bytes first.text) ≤ most =
-    subst (λ text. longest_from list.phrases text ≤ most) c.as_str.ensures c.most_from-most.ensures.bound in
+    subst (λ text. longest_from list.phrases text ≤ most) (c.as_bytes.ensures.value ∙ c.as_str.ensures) c.most_from-most.ensures.bound in
     let known : (c.args.at_end ≡ true) ⊎ (most ≤ length items) =
     elim c.else-not-at_end.branch [
       | else-not-at_end-via-then-not-at_end+else-len-most w ↦ inr

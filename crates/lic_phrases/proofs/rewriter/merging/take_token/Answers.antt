@@ -19,7 +19,7 @@ returns-then-most_from-eq0-clause-given c =
     let empty : items ≡ [] = empty_list items (omega (arith, c.args.waiting.now.ok.0)) in
     let bound : longest_from list.phrases (small_bytes token.text) ≤ c.most_from.result =
     subst (λ text. longest_from list.phrases text
-    ≤ c.most_from.result) c.as_str.ensures c.most_from.ensures.bound in
+    ≤ c.most_from.result) (c.as_bytes.ensures.value ∙ c.as_str.ensures) c.most_from.ensures.bound in
     let zero_is : 0 ≡ min 0 (length one) = omega arith in
     OnOk-one c.give_alone.result _ _
     (λ more.

@@ -15,12 +15,12 @@ use Rattle.lic_set.proofs.set.Set.candidates.Goals as goal
 are-keys : (c : goal.After-candidates) → AreKeysOf (parts_of c.args.self.now) c.self.inside.keys
 are-keys c = subst (λ set. AreKeysOf (parts_of set) c.self.inside.keys) c.self.view_is c.self.invariant
 
-spelling : (c : goal.After-candidates) → c.as_bytes.result.now ≡ spelling_of c.args.text.now.tokens
-spelling c = c.as_bytes.ensures.value ∙ c.spelled.ensures
+spelling : (c : goal.After-candidates) → c.spelled.result.now ≡ spelling_of c.args.text.now.tokens
+spelling c = c.spelled.ensures
 
 pub returns-clause-rising : goal.returns-clause-rising
 returns-clause-rising c =
-    let bytes = c.as_bytes.result.now in
+    let bytes = c.spelled.result.now in
     let keys = c.self.inside.keys in
     let count : length keys.texts ≡ length c.args.self.now = keys-count c.args.self.now keys (are-keys c) in
     IfOk-weaker c.candidates.result _ _
@@ -50,6 +50,6 @@ returns-clause-each c =
     let keys = c.self.inside.keys in
     IfOk-weaker c.candidates.result _ _
     (λ found all.
-    All-weaker (IsCandidateIn keys c.as_bytes.result.now) (IsCandidateOf set tokens)
+    All-weaker (IsCandidateIn keys c.spelled.result.now) (IsCandidateOf set tokens)
     (λ k is. is-candidate set keys (are-keys c) tokens k (subst (λ bytes. IsCandidateIn keys bytes k) (spelling c) is)) found.items all)
     c.candidates.ensures.each

@@ -20,7 +20,7 @@ ends-requires c =
     let tokens = c.args.text.now.tokens in
     let keys = c.self.inside.keys in
     let are : AreKeysOf (parts_of set) keys = subst (λ s. AreKeysOf (parts_of s) keys) c.self.view_is c.self.invariant in
-    subst (λ bytes. IsCandidateIn keys bytes c.args.candidate.now) (sym (c.as_bytes.ensures.value ∙ c.spelled.ensures))
+    subst (λ bytes. IsCandidateIn keys bytes c.args.candidate.now) (sym c.spelled.ensures)
     (is-candidate-in set keys are tokens none c.args.candidate.now c.requires)
 
 pub returns-clause-ends : goal.returns-clause-ends
@@ -30,13 +30,13 @@ returns-clause-ends c =
     let candidate = c.args.candidate.now in
     let keys = c.self.inside.keys in
     let are : AreKeysOf (parts_of set) keys = subst (λ s. AreKeysOf (parts_of s) keys) c.self.view_is c.self.invariant in
-    let spelling : c.as_bytes.result.now ≡ spelling_of tokens = c.as_bytes.ensures.value ∙ c.spelled.ensures in
+    let spelling : c.spelled.result.now ≡ spelling_of tokens = c.spelled.ensures in
     IfOk-weaker c.ends.result _ _
     (λ found h.
     hold-ends set keys are candidate c.requires.below (spelling_of tokens) found h.0
     (subst (λ bytes. IfSome found (λ ends. (e : ℕ) → Contains ends.places.items e ↔ EndsAt bytes (letters_of keys candidate.number) e)) spelling h.1))
     (both-ok (λ found. option_map (λ ends. ends.part) found ≡ text_of keys candidate.number)
-    (λ found. IfSome found (λ ends. (e : ℕ) → Contains ends.places.items e ↔ EndsAt c.as_bytes.result.now (letters_of keys candidate.number) e)) c.ends.result
+    (λ found. IfSome found (λ ends. (e : ℕ) → Contains ends.places.items e ↔ EndsAt c.spelled.result.now (letters_of keys candidate.number) e)) c.ends.result
     c.ends.ensures.part c.ends.ensures.exact)
 
 pub returns-clause-none : goal.returns-clause-none

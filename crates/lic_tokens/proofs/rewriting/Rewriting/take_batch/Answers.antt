@@ -4,8 +4,8 @@ use Rattle.lic_tokens.specs.Tokens.{TokenValue}
 use Rattle.lic_tokens.specs.declared.rewriting.Rewriting.{Rewriting}
 use Rattle.lic_tokens.proofs.rewriting.Rewriting.take_batch.Goals as goal
 
-pub add-requires : goal.add-requires
-add-requires c = let told = c.spell-next.ensures.held.holds in record { tokens = told.added; spelled = told.spelled }
+pub add-requires-clause-spelled : goal.add-requires-clause-spelled
+add-requires-clause-spelled c = let told = c.spell-next.ensures.held.holds in record { tokens = told.added; spelled = told.spelled }
 
 pub returns-clause-taken : goal.returns-clause-taken
 returns-clause-taken c =

@@ -1,5 +1,6 @@
 use Rattle.std.proofs.Common.{◌+◌, codes, sym, subst, ◌∙◌, arith}
 use Rattle.std.proofs.lemmas.List.Elements.{All-get_or}
+use Rattle.lic_columns.specs.PlainLines.{HasWords}
 use Rattle.lic_lines.specs.Tokens.{Token}
 use Rattle.lic_phrases.specs.TokenTexts.{IsTokenText}
 use Rattle.lic_tokens.proofs.StretchTokens.{no_token, sign_taken, sign_within, token_taken}
@@ -46,7 +47,7 @@ returns-then-is_sign-clause-taken c =
 
 pub push_text-requires-2-clause-text : goal.push_text-requires-2-clause-text
 push_text-requires-2-clause-text c =
-    subst IsTokenText (sym (c.text-text.ensures.text no_token))
+    subst IsTokenText (sym (c.utf8_text.ensures ∙ c.text-text.ensures.text no_token))
     (All-get_or (λ t. IsTokenText t.text) c.args.stretch.now c.args.i no_token (omega (arith, c.if-i-len.false, c.len.ensures)) c.requires.texts)
 
 pub returns-clause-taken : goal.returns-clause-taken
@@ -54,12 +55,12 @@ returns-clause-taken c =
     let tokens = c.args.stretch.now in
     let i = c.args.i in
     let token : Token = record {
-      text = c.text-text.result.now;
+      text = c.utf8_text.result.now;
       start = c.start-start.result;
       end = c.end-2.result;
       after_blank = c.after_blank-blank.result;
     } in
     one_taken tokens i (i + 1) c.args.self.now c.push_text-2.new.self token c.in_ok-push_text-2.ensures.taken
     (token_taken tokens i token.text token.start token.end token.after_blank (omega (arith, c.if-i-len.false, c.len.ensures)) (sym c.is_sign.ensures ∙ c.if-is_sign.false)
-    c.text-text.ensures.words (c.text-text.ensures.text no_token) (c.start-start.ensures no_token) (c.end-2.ensures no_token)
+    (subst HasWords (sym c.utf8_text.ensures) c.text-text.ensures.words) (c.utf8_text.ensures ∙ c.text-text.ensures.text no_token) (c.start-start.ensures no_token) (c.end-2.ensures no_token)
     (c.after_blank-blank.ensures no_token))

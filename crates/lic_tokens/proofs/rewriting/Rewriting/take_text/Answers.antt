@@ -1,4 +1,4 @@
-use Rattle.std.proofs.Common.{◌++◌, ◌∷◌, [], List, refl}
+use Rattle.std.proofs.Common.{◌++◌, ◌∷◌, [], List, sym}
 use Rattle.std.proofs.lemmas.Result.{on_ok_weaker}
 use Rattle.lic_lines.specs.Tokens.{Token}
 use Rattle.lic_phrases.specs.Rewriting.{SpannedText, spanned}
@@ -15,7 +15,7 @@ returns-then-lets_pass-clause-taken c =
     on_ok_weaker c.push.result
     (λ added. λ taken has. record {
       settled = has.settled ++ one;
-      settles = c.lets_pass.ensures c.if-lets_pass.true has.settled taken token refl has.settles;
+      settles = c.lets_pass.ensures c.if-lets_pass.true has.settled taken token (sym c.as_bytes.ensures.value) has.settles;
       listed = listed-more has.settled one self.tokens c.push.new.self has.listed added;
       known = has.known;
       texts = All-push (λ t. IsTokenText t.text) taken token has.texts c.requires.text;

@@ -60,9 +60,9 @@ returns-clause-held c =
     let parted = is_parted (before ++ so_far) text in
     let grown : take c.put-place.result c.put-place.new.bytes ≡ so_far ++ (blank_if parted ++ text) =
     c.put-place.ensures.bytes
-    ∙ ap (λ b. so_far ++ (blank_if b ++ take (length text) c.as_bytes.result.now))
-    (blank_is tokens i rewriting batch state text known c.utf8.text is c.requires.words c.is_word_at.result c.is_word_at.ensures)
-    ∙ ap (λ l. so_far ++ (blank_if parted ++ l)) (ap (take (length text)) c.as_bytes.ensures.value ∙ sym c.requires.front) in
+    ∙ ap (λ b. so_far ++ (blank_if b ++ take (length text) c.args.letters.now))
+    (blank_is tokens i rewriting batch state text known c.requires.utf8 is c.requires.words c.is_word_at.result c.is_word_at.ensures)
+    ∙ ap (λ l. so_far ++ (blank_if parted ++ l)) (sym c.requires.front) in
     let token : Token = record {
       text = text;
       start = c.start.result;
@@ -79,12 +79,12 @@ returns-clause-held c =
       short = short;
       utf8 = known.utf8;
       holds = one_more_spelled tokens i state.next rewriting so_far (take c.put-place.result c.put-place.new.bytes) (take (state.next - i) batch.entries) _ token entry
-          known.holds c.requires.none c.utf8.text is (λ settled taken. c.requires.left settled taken token refl)
+          known.holds c.requires.none c.requires.utf8 is (λ settled taken. c.requires.left settled taken token refl)
           (token_taken tokens state.next text token.start token.end token.after_blank c.requires.within c.requires.no_sign c.requires.words
           (c.requires.text no_token) (c.start.ensures no_token) (c.end.ensures no_token) refl)
           grown
           (ap₂ (λ m n. let e : Entry = record { text_end = m + n; start = c.start.result; end = c.end.result } in e) c.requires.before (sym long))
           (take-set_at batch.entries (state.next - i) (state.next + 1 - i) entry (omega (arith, known.from)) (omega (arith, known.from, c.requires.few)));
-      word = word_is tokens i rewriting batch state text known c.utf8.text is c.requires.words (length text - 1) c.is_word_at-2.result
+      word = word_is tokens i rewriting batch state text known c.requires.utf8 is c.requires.words (length text - 1) c.is_word_at-2.result
           (take c.put-place.result c.put-place.new.bytes) (omega (arith, is.not_empty)) c.is_word_at-2.ensures grown;
     }

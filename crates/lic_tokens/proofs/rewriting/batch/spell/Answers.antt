@@ -1,5 +1,4 @@
 use Rattle.std.proofs.Common.{◌≡◌, ◌-◌, [], length, ap, sym, ◌∙◌, append-nil, subst, arith, take}
-use Rattle.std.specs.Str.{IsUtf8}
 use Rattle.lic_phrases.specs.Spelling.{ends_in_word}
 use Rattle.lic_tokens.specs.Batches.{HasSpelledUpTo}
 use Rattle.lic_tokens.proofs.BatchLemmas.{none_spelled_yet}
@@ -15,10 +14,10 @@ loop-state-init c =
       held = record {
         from = omega arith;
         short = omega arith;
-        utf8 = subst IsUtf8 c.spelled-spelled.ensures c.spelled-spelled.utf8;
+        utf8 = c.after_word.ensures.utf8;
         holds = subst (λ n. HasSpelledUpTo c.args.stretch.now i i c.args.rewriting.now [] (take n c.args.batch.now.entries)) none
             (none_spelled_yet c.args.stretch.now i c.args.rewriting.now);
-        word = c.ends_in_word.ensures ∙ ap ends_in_word (c.spelled-spelled.ensures ∙ sym (append-nil _));
+        word = c.after_word.ensures.word ∙ ap ends_in_word (sym (append-nil _));
       };
     }
 

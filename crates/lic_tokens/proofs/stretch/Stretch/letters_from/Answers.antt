@@ -1,5 +1,5 @@
-use Rattle.std.proofs.Common.{ℕ, ◌<◌, ◌-◌, List, length, take, drop, get_or, ap, ap₂, sym, subst, ◌∙◌, arith}
-use Rattle.std.specs.Str.{IsCharBoundary}
+use Rattle.std.proofs.Common.{ℕ, ◌<◌, ◌-◌, List, length, take, drop, get_or, ap, ap₂, sym, ◌∙◌, arith}
+use Rattle.std.proofs.lemmas.List.{take_rest}
 use Rattle.lic_lines.specs.Tokens.{Token}
 use Rattle.lic_tokens.proofs.StretchTokens.{count, text_in_front, token_is}
 use Rattle.lic_tokens.proofs.stretch.Stretch.letters_from.Goals as goal
@@ -16,13 +16,6 @@ overflow_sub-from c =
     omega (arith, c.requires, count s.at s.letters.now s.starts.now s.ends.now c.args.self.now c.self.invariant.paired c.self.view_is) in
     omega (arith, c.self.invariant.from c.args.i lt, c.place-start.ensures)
 
-pub range_from-requires : goal.range_from-requires
-range_from-requires c = λ some.
-    let s = c.self.inside in
-    let lt : c.args.i < length s.starts.now =
-    omega (arith, c.requires, count s.at s.letters.now s.starts.now s.ends.now c.args.self.now c.self.invariant.paired c.self.view_is) in
-    subst (λ n. IsCharBoundary s.letters.now (n - s.at)) (sym c.place-start.ensures) (c.self.invariant.begin c.args.i lt)
-
 pub returns : goal.returns
 returns c = record {
   front = λ d.
@@ -33,7 +26,7 @@ returns c = record {
       let rest = drop (start - s.at) s.letters.now in
       let texts = ap (λ (t : Token). t.text)
       (token_is s.at s.letters.now s.starts.now s.ends.now c.args.self.now c.self.invariant.paired c.self.view_is i d c.requires) in
-      let here = c.range_from.ensures.value ∙ ap (λ m. drop (m - s.at) s.letters.now) c.place-start.ensures in
+      let here = take_rest s.letters.now (c.place-start.result - s.at) ∙ ap (λ m. drop (m - s.at) s.letters.now) c.place-start.ensures in
       sym texts ∙ text_in_front rest ((end - s.at) - (start - s.at))
       ∙ ap₂ (λ (t l : List ℕ). take (length t) l) texts (sym here);
 }

@@ -1,25 +1,26 @@
-use Rattle.std.proofs.Common.{◌≡◌, ◌++◌, ap, ◌∙◌}
-use Rattle.std.specs.String.{string_bytes}
+use Rattle.std.proofs.Common.{◌≡◌, ◌++◌, ap, sym, ◌∙◌}
+use Rattle.lic_phrases.specs.Spelling.{ends_in_word, spelled}
+use Rattle.lic_tokens.specs.Places.{texts_of}
 use Rattle.lic_tokens.proofs.BatchLemmas.{kept-added, values-added}
 use Rattle.lic_tokens.proofs.token_list.TokenList.add.Goals as goal
+use Rattle.lic_tokens.proofs.token_list.TokenList.add.Goals.{After-self-1}
 
 -- what is written
-grown : (c : goal.In_ok-push_str) → string_bytes c.push_str.new.self ≡ string_bytes c.self.inside.spelling ++ c.args.bytes.now
-grown c =
-    c.in_ok-push_str.ensures.bytes ∙ ap (λ l. l ++ c.utf8_text.result.now) c.in_ok-reserve.ensures.bytes
-    ∙ ap (λ l. string_bytes c.self.inside.spelling ++ l) c.utf8_text.ensures
-
-pub utf8_text-requires : goal.utf8_text-requires
-utf8_text-requires c = c.requires.spelled.utf8
+grown : (c : After-self-1) → c.extend_from_slice-2.new.self.items ≡ c.self.inside.spelling.items ++ c.args.bytes.now
+grown c = c.in_ok-extend_from_slice-2.ensures.items ∙ ap (λ l. l ++ c.args.bytes.now) c.in_ok-reserve.ensures.items
 
 pub invariant_of-self-2 : goal.invariant_of-self-2
 invariant_of-self-2 c =
-    kept-added (string_bytes c.self.inside.spelling) (string_bytes c.push_str.new.self) c.args.bytes.now c.self.inside.entries.items
-    c.extend_from_slice.new.self.items c.args.entries.now c.args.self.now c.requires.tokens c.requires.spelled c.self.invariant c.self.view_is
-    (grown c) c.in_ok-extend_from_slice.ensures.items
+    let before : spelled (texts_of c.args.self.now) ≡ c.self.inside.spelling.items =
+    sym (c.self.invariant.0.spells ∙ ap (λ ts. spelled (texts_of ts)) c.self.view_is) in (
+      kept-added c.self.inside.spelling.items c.extend_from_slice-2.new.self.items c.args.bytes.now c.self.inside.entries.items
+          c.extend_from_slice.new.self.items c.args.entries.now c.args.self.now c.requires.spelled.tokens c.requires.spelled.spelled
+          c.self.invariant.0 c.self.view_is (grown c) c.in_ok-extend_from_slice.ensures.items,
+      c.requires.word ∙ ap ends_in_word (ap (λ l. l ++ c.args.bytes.now) before ∙ sym (grown c)),
+    )
 
 pub returns : goal.returns
 returns c = λ tokens spelled.
-    values-added (string_bytes c.self.inside.spelling) (string_bytes c.push_str.new.self) c.args.bytes.now c.self.inside.entries.items
-    c.extend_from_slice.new.self.items c.args.entries.now c.args.self.now tokens spelled c.self.invariant c.self.view_is
+    values-added c.self.inside.spelling.items c.extend_from_slice-2.new.self.items c.args.bytes.now c.self.inside.entries.items
+    c.extend_from_slice.new.self.items c.args.entries.now c.args.self.now tokens spelled c.self.invariant.0 c.self.view_is
     (grown c) c.in_ok-extend_from_slice.ensures.items
