@@ -39,28 +39,28 @@ pub short_blank : (b : Bool) → length (blank_if b) ≤ 1
 short_blank true = omega arith
 short_blank false = omega arith
 
--- a blank was written, and 16 letters after it or over it
-module _ (old letters : List ℕ) (place len : ℕ) (fits : place + 17 ≤ length old) (long : 16 ≤ length letters) (short : len ≤ 16) where
+-- a blank was written, and so many letters after it or over it
+module _ (old letters : List ℕ) (place len n : ℕ) (fits : place + (n + 1) ≤ length old) (long : n ≤ length letters) (short : len ≤ n) where
   abbrev blank_put : List ℕ
   blank_put = slice_set old place 0x20
 
   front : (blank : Bool) → take (place + from_bool blank) blank_put ≡ take place old ++ blank_if blank
   front true = take_more_set old place 0x20 (omega (arith, fits))
   front false =
-      ap (λ n. take n blank_put) (let e : place + 0 ≡ place = omega arith in e) ∙ take-set old place 0x20 ∙ sym (append-nil (take place old))
+      ap (λ m. take m blank_put) (let e : place + 0 ≡ place = omega arith in e) ∙ take-set old place 0x20 ∙ sym (append-nil (take place old))
 
-  pub written : (blank : Bool) (start k : ℕ) (copied : List ℕ) → start ≡ place + from_bool blank → copied ≡ take 16 letters
+  pub written : (blank : Bool) (start k : ℕ) (copied : List ℕ) → start ≡ place + from_bool blank → copied ≡ take n letters
       → take (start + len) (put_mid start k blank_put copied) ≡ take place old ++ (blank_if blank ++ take len letters)
   written blank start k copied is same =
       let before = take start blank_put in
       let whole = put_mid start k blank_put copied in
       let within : start ≤ length blank_put = omega (arith, is, small_bool blank, fits, length-set old place 0x20) in
-      let wide : length copied ≡ 16 = ap length same ∙ length-take-le 16 letters long in
-      sym (take-take (start + len) (start + 16) whole (omega (arith, short)))
-      ∙ ap (take (start + len)) (take-put_mid start k blank_put copied (start + 16) (omega (arith, wide)) within)
-      ∙ ap (λ n. take (n + len) (before ++ copied)) (sym (length-take-le start blank_put within))
+      let wide : length copied ≡ n = ap length same ∙ length-take-le n letters long in
+      sym (take-take (start + len) (start + n) whole (omega (arith, short)))
+      ∙ ap (take (start + len)) (take-put_mid start k blank_put copied (start + n) (omega (arith, wide)) within)
+      ∙ ap (λ m. take (m + len) (before ++ copied)) (sym (length-take-le start blank_put within))
       ∙ take-append-add before copied len
-      ∙ ap₂ (λ (a b : List ℕ). a ++ b) (ap (λ n. take n blank_put) is ∙ front blank) (ap (take len) same ∙ take-take len 16 letters short)
+      ∙ ap₂ (λ (a b : List ℕ). a ++ b) (ap (λ m. take m blank_put) is ∙ front blank) (ap (take len) same ∙ take-take len n letters short)
       ∙ append_assoc (take place old) (blank_if blank) (take len letters)
 
 -- whether a text ends in a word, by its last byte

@@ -28,10 +28,10 @@ pub record HasSpelledUpTo (tokens : List Token) (i next : ℕ) (rewriting : Rewr
   pub spelled : AreSpelledAfter rewriting.tokens added bytes entries
   pub taken : HasTakenUpTo tokens i next rewriting (record rewriting { tokens = rewriting.tokens ++ added })
 
--- the tokens from the number `i` on are in a batch, as far as they are spelled there, each in at most 17 bytes
+-- the tokens from the number `i` on are in a batch, as far as they are spelled there, each in at most 33 bytes
 pub record AreInBatch (tokens : List Token) (i : ℕ) (rewriting : Rewriting) (batch : Batch) (state : Spelled) : Type 0 where
   pub from : i ≤ state.next
-  pub short : state.place ≤ 17 * (state.next - i)
+  pub short : state.place ≤ 33 * (state.next - i)
   pub utf8 : IsUtf8 (spelled (texts_of rewriting.tokens))
   pub holds : HasSpelledUpTo tokens i state.next rewriting (take state.place batch.bytes) (take (state.next - i) batch.entries)
   pub word : state.after_word ≡ ends_in_word (spelled (texts_of rewriting.tokens) ++ take state.place batch.bytes)

@@ -16,14 +16,17 @@ use crate::token_list::Entry;
 use crate::word_bytes::is_word_byte;
 use lic_phrases::{Phrases, Rewriter};
 
-/// So many letters are copied at once.
-pub(crate) const COPIED: usize = 16;
+/// So many letters are copied at once: most texts have fewer.
+const COPIED: usize = 16;
+
+/// And of a longer text so many.
+const MOST: usize = 32;
 
 /// At most so many tokens are spelled together.
 const TOKENS: usize = 128;
 
 /// So many bytes they have at most: each a blank and the letters that are copied.
-const BYTES: usize = 2176;
+const BYTES: usize = 4224;
 
 /// Tokens that are spelled together, before they are added to a list.
 #[derive(Drop)]
@@ -59,19 +62,26 @@ impl Batch {
     }
 }
 
-/// Writes a text of so many letters, with which these begin, after a blank or not: gives the place after it. The blank and 16 letters
-/// are written in any case, and what is too much is written over: so nothing depends on the length.
+/// Writes a text of so many letters, with which these begin, after a blank or not: gives the place after it. The blank and `wide`
+/// letters are written in any case, and what is too much is written over: so nothing depends on the length.
 #[inline(always)]
-fn put(bytes: &mut [u8; BYTES], place: usize, blank: bool, letters: &[u8], len: usize) -> usize
-    requires fits { place + 17 ≤ BYTES }
-    requires long { 16 ≤ length letters.now }
-    requires short { len ≤ 16 }
+fn put(
+    bytes: &mut [u8; BYTES],
+    place: usize,
+    blank: bool,
+    letters: &[u8],
+    len: usize,
+    wide: usize,
+) -> usize
+    requires fits { place + (wide + 1) ≤ BYTES }
+    requires long { wide ≤ length letters.now }
+    requires short { len ≤ wide }
     ensures place { result ≡ place + (length (blank_if blank) + len) }
     ensures bytes { take result bytes.new ≡ take place bytes.old ++ (blank_if blank ++ take len letters.now) }
 {
     bytes[place] = b' ';
     let start = place + usize::from(blank);
-    bytes[start..start + COPIED].copy_from_slice(&letters[..COPIED]);
+    bytes[start..start + wide].copy_from_slice(&letters[..wide]);
     start + len
 }
 
@@ -150,10 +160,12 @@ pub(crate) fn spell(
             return state;
         };
         let letters = stretch.letters_from(state.next);
-        if text.len() > COPIED || letters.len() < COPIED {
+        if text.len() > MOST || letters.len() < MOST {
             return state;
         }
-        state = put_token(rewriting, stretch, i, before, text, letters, state, batch);
+        state = put_token(
+            rewriting, stretch, i, before, text, letters, MOST, state, batch,
+        );
     }
     state
 }
@@ -191,7 +203,9 @@ fn spell_plain(
         if !Rewriter::leaves_plain(rewriting.phrases, text) {
             return state;
         }
-        state = put_token(rewriting, stretch, i, before, text, letters, state, batch);
+        state = put_token(
+            rewriting, stretch, i, before, text, letters, COPIED, state, batch,
+        );
     }
     state
 }
@@ -205,6 +219,7 @@ fn put_token(
     before: usize,
     text: &[u8],
     letters: &[u8],
+    wide: usize,
     state: Spelled,
     batch: &mut Batch,
 ) -> Spelled
@@ -217,9 +232,10 @@ fn put_token(
     requires texts { HaveTexts stretch.now }
     requires held { AreInBatch stretch.now i rewriting.now batch.old state }
     requires text { (d : _) → text.now ≡ (slice_index_or stretch.now state.next d).text }
-    requires short { length text.now ≤ COPIED }
+    requires most { wide ≤ MOST }
+    requires short { length text.now ≤ wide }
     requires front { text.now ≡ take (length text.now) letters.now }
-    requires wide { COPIED ≤ length letters.now }
+    requires wide { wide ≤ length letters.now }
     requires utf8 { IsUtf8 text.now }
     requires words { HasWords text.now }
     requires no_sign { begins_sign (drop state.next stretch.now) ≡ false }
@@ -229,7 +245,14 @@ fn put_token(
 {
     let next = state.next;
     let blank = state.after_word & is_word_at(text, 0);
-    let place = put(&mut batch.bytes, state.place, blank, letters, text.len());
+    let place = put(
+        &mut batch.bytes,
+        state.place,
+        blank,
+        letters,
+        text.len(),
+        wide,
+    );
     batch.entries[next - i] = Entry {
         text_end: before + place,
         start: stretch.start(next),

@@ -23,6 +23,7 @@ overflow_add-batch c =
       c.requires.fits,
       c.requires.few,
       c.requires.short,
+      c.requires.most,
       c.requires.held.from,
       c.requires.held.short,
       c.put-place.ensures.place,
@@ -70,8 +71,8 @@ returns-clause-held c =
       after_blank = (get_or tokens state.next no_token).after_blank;
     } in
     let entry : Entry = record { text_end = c.args.before + c.put-place.result; start = c.start.result; end = c.end.result } in
-    let short : c.put-place.result ≤ 17 * (state.next + 1 - i) =
-    omega (arith, c.requires.short, known.from, known.short, c.put-place.ensures.place, short_blank (state.after_word && c.is_word_at.result)) in
+    let short : c.put-place.result ≤ 33 * (state.next + 1 - i) =
+    omega (arith, c.requires.short, c.requires.most, known.from, known.short, c.put-place.ensures.place, short_blank (state.after_word && c.is_word_at.result)) in
     let long : length (take c.put-place.result c.put-place.new.bytes) ≡ c.put-place.result =
     length-take-le c.put-place.result c.put-place.new.bytes (omega (arith, short, known.from, c.requires.few)) in
     record {
