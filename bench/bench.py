@@ -6,6 +6,8 @@ times its seconds those of the first are. Inputs are made from fixed seeds by `i
 of which half have a licence at their heads, templates in the shape of published ones. The starter set is timed, too. The parts, all of them
 where none is named:
   reading    50 MB of licence texts: `tokens`, and a scan for a template that never occurs, against `wc -m`
+  kinds      `tokens` by kind of text, in seconds of the processor, the quickest of 15 runs: real files of this system, prose from its translated
+             manual pages, and the sources with 42 lists of equivalent words
   rules      `tokens` of 10 MB by the profile's line rules and 256 texts, against the profile alone: texts that begin with a sign, and with a letter
   start      the start: 700 templates in the shape of published ones, and the starter set
   search     the search beyond reading, `scan` and `scan --all`, each for both sets of templates: 20 MB of sources, 10,000 small files, a megabyte of
@@ -22,7 +24,7 @@ of `growth` are of one run.
 import dataclasses, math, os, subprocess, sys, tempfile
 
 import growing, harness, running
-import inputs, starter
+import inputs, kinds, starter
 
 HERE = os.path.dirname(os.path.abspath(__file__))
 ENVIRONMENT = dict(os.environ, LC_ALL='C.UTF-8')
@@ -31,6 +33,8 @@ FILES_OF_A_CALL = 4_000
 SOURCES = 20_000_000
 MANY_SOURCES = 200_000_000
 MOST_SECONDS = 30
+# about so many bytes of each kind of text in a run
+KIND = 8_000_000
 
 
 @dataclasses.dataclass
@@ -110,6 +114,22 @@ def reading(bench):
     counted = quickest([['wc', '-m', text]])
     for name, arguments in (('tokens', ['tokens']), ('a scan for nothing', ['scan', '--templates', never])):
         bench.line(name, bench.quickest([*arguments, text]), counted, 'wc -m')
+
+
+def kinds_of_text(bench):
+    read = kinds.kinds(bench.folder)
+    chosen = [(name, [], files) for name, files in read.items()]
+    if 'sources' in read:
+        chosen.append(('sources, 42 lists of words', ['--words', kinds.words(bench.folder)], read['sources']))
+    for name, options, files in chosen:
+        size = sum(map(os.path.getsize, files))
+        times = max(1, KIND // size)
+        commands = [[program, 'tokens', *options, '--'] for program in bench.programs]
+        least = [math.inf for _ in commands]
+        for _ in range(15):
+            least = [min(seconds, timed(command, files * times).processor) for seconds, command in zip(least, commands)]
+        rates = ' | '.join(f'{seconds * 1000:7.0f} ms {size * times / seconds / 1e6:6.0f} MB/s {least[0] / seconds:6.2f} times' for seconds in least)
+        print(f'{name:28} {size * times / 1e6:5.1f} MB {rates}', flush=True)
 
 
 def rules(bench):
@@ -228,7 +248,7 @@ def growth(bench):
             row('ratio', [one / other for one, other in zip(*rows)])
 
 
-PARTS = {'reading': reading, 'rules': rules, 'start': start, 'search': search, 'set': set_of_templates, 'growth': growth}
+PARTS = {'reading': reading, 'kinds': kinds_of_text, 'rules': rules, 'start': start, 'search': search, 'set': set_of_templates, 'growth': growth}
 
 
 def main():
