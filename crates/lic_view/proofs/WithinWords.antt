@@ -1,12 +1,13 @@
 -- No token ends between letters of words: a blank would be between them.
-use Rattle.std.proofs.Common.{◌≡◌, ℕ, suc, ◌+◌, ◌-◌, ◌<◌, inl, inr, true, IsTrue, List, [], length, get_or, drop, sym, ap, ◌∙◌, arith}
+use Rattle.std.proofs.Common.{◌≡◌, ℕ, suc, ◌+◌, ◌-◌, ◌<◌, ◌&&◌, inl, inr, Bool, true, IsTrue, List, [], length, get_or, drop, sym, ap, ap₂, ◌∙◌, arith}
+use Rattle.std.specs.Str.{IsUtf8}
 use Rattle.std.proofs.lemmas.Bool.{cases_Bool, cases_lt, eqb-true, true≢false}
 use Rattle.std.proofs.lemmas.List.{get_or-drop, get_or_append_left}
 use Rattle.lic_kind.specs.Kinds.{is_word_kind, kind_of}
-use Rattle.lic_phrases.specs.Spelling.{blank_if, is_parted_at}
+use Rattle.lic_phrases.specs.Spelling.{blank_if, is_parted, is_parted_at}
 use Rattle.lic_norm.specs.Tokens.{TokenValue}
 use Rattle.lic_norm.specs.Places.{IsTokenEnd, place_end, place_start, texts_of}
-use Rattle.lic_norm.proofs.PartedLemmas.{ascii_parted}
+use Rattle.lic_norm.proofs.PartedLemmas.{begins-ascii, ends-ascii}
 use Rattle.lic_places.specs.Places.{AreTexts, Occurs, spelling_of}
 use Rattle.lic_places.proofs.Occurring.{Occurs-drop}
 use Rattle.lic_places.proofs.TieEnds.{text-utf8}
@@ -18,6 +19,13 @@ byte_of : (bytes text : List ℕ) (p q n : ℕ) → Occurs bytes p text q → n 
 byte_of bytes text p q n occurs within =
     sym (get_or_append_left text (drop q bytes) 0 n within)
     ∙ (ap (λ l. get_or l n 0) (sym (Occurs-drop bytes p text q occurs)) ∙ get_or-drop p bytes n 0)
+
+-- the letters that meet are of ASCII
+ascii_parted : (spelling text : List ℕ) (n : ℕ) (a b : Bool) → IsUtf8 spelling → IsUtf8 text → n + 1 ≡ length spelling → 0 < length text
+    → get_or spelling n 0 < 128 → get_or text 0 0 < 128 → a ≡ is_word_kind (kind_of (get_or spelling n 0))
+    → b ≡ is_word_kind (kind_of (get_or text 0 0)) → (a && b) ≡ is_parted spelling text
+ascii_parted spelling text n a b spelling_utf8 text_utf8 count some last first is_a is_b =
+    ap₂ (λ x y. x && y) (is_a ∙ ends-ascii spelling n spelling_utf8 count last) (is_b ∙ begins-ascii text text_utf8 some first)
 
 -- the blank is no word character
 blank_no_word : (byte : ℕ) → byte ≡ 0x20 → IsTrue (is_word_kind (kind_of byte)) → ⊥
