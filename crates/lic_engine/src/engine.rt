@@ -22,6 +22,10 @@ use lic_set::Set;
 use lic_stream::{Sink, Source, put_all, put_gathered};
 use std::alloc::Global;
 
+/// Memory for the lines of tokens that are gathered before they are written, and for the one after which they are enough: mostly the
+/// list never grows.
+const GATHERED: usize = 66_560;
+
 /// Writes the lines of all matches that are asked for, and says whether there was one.
 fn report_all<W: Sink>(
     alloc: Global,
@@ -145,8 +149,8 @@ fn report_tokens<W: Sink>(
 {
     let mut file = Vec::new(alloc);
     add_file(&mut file, name)?;
-    let mut front = LineFront::new(file);
-    let mut lines = Vec::new(alloc);
+    let mut front = LineFront::new(file)?;
+    let mut lines = Vec::with_capacity(alloc, GATHERED)?;
     for i in 0..text.len() {
         add_token(&mut lines, &mut front, text, i)?;
         put_gathered(out, &mut lines)?;

@@ -1,3 +1,4 @@
 mod Characters
 mod LineFronts
+mod LineParts
 mod PlainBytes

@@ -1,13 +1,13 @@
 -- The front of a line: two digits written over those of a number that differs in them alone.
 use Rattle.std.proofs.Common.{◌≡◌, ℕ, false, zero, suc, ◌+◌, ◌-◌, ◌*◌, ◌/◌, ◌%◌, ◌^◌, ◌<◌, ◌≤◌, Bool, true, ◌&&◌, T, eqb, List, [], ◌∷◌, ◌++◌, length, take, drop, set, get_or, refl, sym, ap, ap₂, ◌∙◌, inl, inr, arith, eq-zero-or-pos, eqb→eq, append_assoc, length-append, length-set, true≢false}
 use Rattle.std.proofs.Math.Seq.{take-append_seam, drop-append_seam}
-use Rattle.std.proofs.lemmas.List.{take-append-drop, take-set-le, take-set, drop-set, set_comm, length-take-le}
+use Rattle.std.proofs.lemmas.List.{take-append-drop, take-set-le, take-set, drop-set, set_comm, length-take-le, take-take, take_at}
 use Rattle.std.specs.Prelude.{decimal}
 use lib.Ieee.Fits.{and_l, and_r}
 use Rattle.itoa.proofs.Decimal.{decimal_pair}
 use Rattle.lic_fields.specs.declared.line_front.TheConstants.{PAIRS}
 use Rattle.lic_fields.specs.Fields.{field}
-use Rattle.lic_fields.specs.Fronts.{last_two, AreWritten}
+use Rattle.lic_fields.specs.Fronts.{IsKept}
 
 abbrev are_pairs : ℕ → Bool
 are_pairs zero = true
@@ -38,6 +38,10 @@ two_set b end t o two fits =
     (ap (drop (end - 2)) (set_comm b (end - 2) (end - 2 + 1) t o (λ x. omega arith))
     ∙ (drop-set (set b (end - 2 + 1) o) (end - 2) t (omega (arith, length-set b (end - 2 + 1) o))
     ∙ ap (λ l. t ∷ l) (drop-set b (end - 2 + 1) o (omega arith) ∙ ap (λ k. o ∷ drop k b) past))))
+
+-- the last two digits of a number
+abbrev pub last_two : ℕ → List ℕ
+last_two n = (48 + n % 100 / 10) ∷ (48 + n % 100 % 10) ∷ []
 
 -- a number within a line, and one that differs from it in its last two digits alone
 module _ (front after : List ℕ) (n k : ℕ) (n_fits : n < 2 ^ 64) (k_fits : k < 2 ^ 64) (large : 100 ≤ k) (near : n / 100 ≡ k / 100) where
@@ -86,72 +90,90 @@ module _ (front after : List ℕ) (n k : ℕ) (n_fits : n < 2 ^ 64) (k_fits : k 
       ap₂ (λ x y. x ++ (last_two n ++ y)) (before_is end e) (after_is end e)
       ∙ sym (parted (decimal n) (last_two n) next_is)
 
--- the front of a line that has these bytes before it, with the digits of its numbers
-module _ (line same : List ℕ) where
-  abbrev lined : List ℕ → List ℕ → List ℕ
-  lined a b = line ++ (same ++ (field a 0x09 ++ field b 0x09))
+-- the front of a line between these bytes, with the digits of its numbers
+module _ (line same after : List ℕ) where
+  abbrev pub lined : List ℕ → List ℕ → List ℕ
+  lined a b = (line ++ (same ++ (field a 0x09 ++ field b 0x09))) ++ after
 
-  before_first : (a b : List ℕ) → lined a b ≡ (line ++ same) ++ (a ++ (0x09 ∷ field b 0x09))
+  before_first : (a b : List ℕ) → lined a b ≡ (line ++ same) ++ (a ++ (0x09 ∷ (field b 0x09 ++ after)))
   before_first a b =
-      sym (append_assoc line same (field a 0x09 ++ field b 0x09))
-      ∙ ap (λ l. (line ++ same) ++ l) (append_assoc a (0x09 ∷ []) (field b 0x09))
+      ap (λ l. l ++ after) (sym (append_assoc line same (field a 0x09 ++ field b 0x09)))
+      ∙ (append_assoc (line ++ same) (field a 0x09 ++ field b 0x09) after
+      ∙ ap (λ l. (line ++ same) ++ l) (append_assoc (field a 0x09) (field b 0x09) after ∙ append_assoc a (0x09 ∷ []) (field b 0x09 ++ after)))
 
-  before_second : (a b : List ℕ) → lined a b ≡ ((line ++ same) ++ field a 0x09) ++ field b 0x09
+  before_second : (a b : List ℕ) → lined a b ≡ ((line ++ same) ++ field a 0x09) ++ (b ++ (0x09 ∷ after))
   before_second a b =
-      sym (append_assoc line same (field a 0x09 ++ field b 0x09))
-      ∙ sym (append_assoc (line ++ same) (field a 0x09) (field b 0x09))
+      ap (λ l. l ++ after) (sym (append_assoc line same (field a 0x09 ++ field b 0x09)) ∙ sym (append_assoc (line ++ same) (field a 0x09) (field b 0x09)))
+      ∙ (append_assoc ((line ++ same) ++ field a 0x09) (field b 0x09) after
+      ∙ ap (λ l. ((line ++ same) ++ field a 0x09) ++ l) (append_assoc b (0x09 ∷ []) after))
 
   pub first_changed : (b bytes : List ℕ) (end n k : ℕ) → n < 2 ^ 64 → k < 2 ^ 64 → 100 ≤ k → n / 100 ≡ k / 100
-      → bytes ≡ line ++ (same ++ (field (decimal k) 0x09 ++ field b 0x09))
-      → end ≡ length line + (length same + length (decimal k))
-      → take (end - 2) bytes ++ (last_two n ++ drop end bytes) ≡ line ++ (same ++ (field (decimal n) 0x09 ++ field b 0x09))
+      → bytes ≡ lined (decimal k) b → end ≡ length line + (length same + length (decimal k))
+      → take (end - 2) bytes ++ (last_two n ++ drop end bytes) ≡ lined (decimal n) b
   first_changed b bytes end n k n_fits k_fits large near is at =
       let long : length (line ++ same) ≡ length line + length same = length-append line same in
       ap (λ x. take (end - 2) x ++ (last_two n ++ drop end x)) (is ∙ before_first (decimal k) b)
-      ∙ (changed (line ++ same) (0x09 ∷ field b 0x09) n k n_fits k_fits large near end (omega (arith, long, at))
+      ∙ (changed (line ++ same) (0x09 ∷ (field b 0x09 ++ after)) n k n_fits k_fits large near end (omega (arith, long, at))
       ∙ sym (before_first (decimal n) b))
 
   pub second_changed : (a bytes : List ℕ) (end n k : ℕ) → n < 2 ^ 64 → k < 2 ^ 64 → 100 ≤ k → n / 100 ≡ k / 100
-      → bytes ≡ line ++ (same ++ (field a 0x09 ++ field (decimal k) 0x09))
-      → end ≡ length bytes - 1
-      → take (end - 2) bytes ++ (last_two n ++ drop end bytes) ≡ line ++ (same ++ (field a 0x09 ++ field (decimal n) 0x09))
+      → bytes ≡ lined a (decimal k) → end ≡ length line + (length same + (length a + 1 + length (decimal k)))
+      → take (end - 2) bytes ++ (last_two n ++ drop end bytes) ≡ lined a (decimal n)
   second_changed a bytes end n k n_fits k_fits large near is at =
-      let shape : bytes ≡ ((line ++ same) ++ field a 0x09) ++ field (decimal k) 0x09 = is ∙ before_second a (decimal k) in
-      let long : length bytes ≡ length ((line ++ same) ++ field a 0x09) + (length (decimal k) + 1) =
-      ap length shape ∙ (length-append ((line ++ same) ++ field a 0x09) (field (decimal k) 0x09)
-      ∙ ap (λ m. length ((line ++ same) ++ field a 0x09) + m) (length-append (decimal k) (0x09 ∷ []))) in
-      ap (λ x. take (end - 2) x ++ (last_two n ++ drop end x)) shape
-      ∙ (changed ((line ++ same) ++ field a 0x09) (0x09 ∷ []) n k n_fits k_fits large near end (omega (arith, long, at))
+      let long : length ((line ++ same) ++ field a 0x09) ≡ length line + length same + (length a + 1) =
+      length-append (line ++ same) (field a 0x09) ∙ ap₂ (λ x y. x + y) (length-append line same) (length-append a (0x09 ∷ [])) in
+      ap (λ x. take (end - 2) x ++ (last_two n ++ drop end x)) (is ∙ before_second a (decimal k))
+      ∙ (changed ((line ++ same) ++ field a 0x09) (0x09 ∷ after) n k n_fits k_fits large near end (omega (arith, long, at))
       ∙ sym (before_second a (decimal n)))
 
-pub first-true : (a b : Bool) → (a && b) ≡ true → a ≡ true
-first-true true b both = refl
-first-true false b both = both
+-- two numbers as fields
+pub numbers_long : (a b : List ℕ) → length (field a 0x09 ++ field b 0x09) ≡ length a + 1 + (length b + 1)
+numbers_long a b =
+    length-append (field a 0x09) (field b 0x09)
+    ∙ ap₂ (λ x y. x + y) (length-append a (0x09 ∷ [])) (length-append b (0x09 ∷ []))
 
-pub second-true : (a b : Bool) → (a && b) ≡ true → b ≡ true
-second-true true b both = both
-second-true false b both = absurd (true≢false (sym both))
+-- a number that is near to one has its hundreds
+pub near_hundreds : (n k from : ℕ) → from ≡ k - k % 100 → from ≤ n → n < from + 100 → (n / 100 ≡ k / 100) × (n - from ≡ n % 100)
+near_hundreds n k from is low high = (omega (arith, is), omega (arith, is))
 
--- where the first number ends in what is written
-pub ends_within : (same : ℕ) (bytes : List ℕ) (first_end first second : ℕ) → same ≤ length bytes → 0 < first
-    → AreWritten same bytes first_end first second → (2 ≤ first_end) × (first_end + 2 ≤ length bytes)
-ends_within same bytes first_end first second within large written =
-    let a = decimal written.one in
-    let b = decimal written.two in
-    let is = written.one_is in
-    let digits : length a ≡ length (decimal (written.one / 100)) + 2 =
-    ap length (decimal_pair written.one (omega (arith, large, is)) written.one_fits) ∙ length-append (decimal (written.one / 100)) (last_two written.one) in
-    let head : length (take same bytes) ≡ same = length-take-le same bytes within in
-    let ends : first_end ≡ same + length a = written.end_is in
-    let whole : length bytes ≡ length (take same bytes) + (length (field a 0x09) + length (field b 0x09)) =
-    ap length written.bytes_are ∙ (length-append (take same bytes) (field a 0x09 ++ field b 0x09)
-    ∙ ap (λ m. length (take same bytes) + m) (length-append (field a 0x09) (field b 0x09))) in
-    let one : length (field a 0x09) ≡ length a + 1 = length-append a (0x09 ∷ []) in
-    let two : length (field b 0x09) ≡ length b + 1 = length-append b (0x09 ∷ []) in
-    (omega (arith, digits, ends), omega (arith, head, ends, whole, one, two))
+-- the bytes that are the same in all stay where numbers are written after them
+module _ (old bytes : List ℕ) (same len one two : ℕ) (within : same ≤ length old) (fits : len ≤ length bytes)
+    (written : take len bytes ≡ take same old ++ (field (decimal one) 0x09 ++ field (decimal two) 0x09)) where
+  pub written_long : len ≡ same + (length (decimal one) + 1 + (length (decimal two) + 1))
+  written_long =
+      sym (length-take-le len bytes fits) ∙ (ap length written
+      ∙ (length-append (take same old) (field (decimal one) 0x09 ++ field (decimal two) 0x09)
+      ∙ ap₂ (λ x y. x + y) (length-take-le same old within) (numbers_long (decimal one) (decimal two))))
 
--- how long a line is to which a front was added
-pub added_length : (line : List ℕ) (n : ℕ) (bytes held after : List ℕ) → bytes ≡ held → after ≡ line ++ take n bytes
-    → length after ≡ length line + length (take n held)
-added_length line n bytes held after same is =
-    ap length is ∙ (length-append line (take n bytes) ∙ ap (λ b. length line + length (take n b)) same)
+  pub same_stays : take same bytes ≡ take same old
+  same_stays =
+      sym (take-take same len bytes (omega (arith, written_long))) ∙ (ap (take same) written
+      ∙ take_at (take same old) (field (decimal one) 0x09 ++ field (decimal two) 0x09) same (length-take-le same old within))
+
+  pub kept_of : (first_end : ℕ) → one < 2 ^ 64 → two < 2 ^ 64 → 100 ≤ one → 100 ≤ two → first_end ≡ same + length (decimal one)
+      → len ≤ same + 42 → same + 138 ≤ length bytes → IsKept bytes same first_end len (one - one % 100) (two - two % 100)
+  kept_of first_end one_fits two_fits one_large two_large end_is end_fits room =
+      record {
+        one = one;
+        two = two;
+        one_fits = one_fits;
+        two_fits = two_fits;
+        one_large = one_large;
+        two_large = two_large;
+        one_is = refl;
+        two_is = refl;
+        bytes_are = written ∙ ap (λ l. l ++ (field (decimal one) 0x09 ++ field (decimal two) 0x09)) (sym same_stays);
+        end_is = end_is;
+        end_fits = end_fits;
+        room = room;
+      }
+
+-- where the two numbers that are kept end
+pub kept_ends : (bytes : List ℕ) (same first_end len first second : ℕ) → (kept : IsKept bytes same first_end len first second)
+    → (2 ≤ first_end) × (len ≡ first_end + 1 + (length (decimal kept.two) + 1)) × (2 ≤ length (decimal kept.two))
+kept_ends bytes same first_end len first second kept =
+    let fits : len ≤ length bytes = omega (arith, kept.end_fits, kept.room) in
+    let long = written_long bytes bytes same len kept.one kept.two (omega (arith, kept.room)) fits kept.bytes_are in
+    let one = two_digits [] [] kept.one kept.one kept.one_fits kept.one_fits kept.one_large refl in
+    let two = two_digits [] [] kept.two kept.two kept.two_fits kept.two_fits kept.two_large refl in
+    (omega (arith, kept.end_is, one), omega (arith, kept.end_is, long), two)

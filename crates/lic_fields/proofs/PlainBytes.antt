@@ -27,14 +27,8 @@ plain-front n bytes plain = plain-stay (take n bytes) (All-take (λ b. escaped_b
 pub block_cut : (old bytes : List ℕ) (n wide : ℕ) → n ≤ wide → take (length old + n) (old ++ take wide bytes) ≡ old ++ take n bytes
 block_cut old bytes n wide short = take-append-add old (take wide bytes) n ∙ ap (λ l. old ++ l) (take-take n wide bytes short)
 
--- those at the front of so many as are copied together, of which the others are let go of
-module _ (old bytes : List ℕ) (n wide : ℕ) (short : n ≤ wide) (plain : ArePlain (take wide bytes)) where
-  front-is : escaped (take n bytes) ≡ take n bytes
-  front-is =
-      ap escaped (sym (take-take n wide bytes short))
-      ∙ (plain-front n (take wide bytes) plain ∙ take-take n wide bytes short)
-
-  pub copied-front : (mark : ℕ) → take (length old + n) (old ++ take wide bytes) ++ mark ∷ [] ≡ old ++ field (escaped (take n bytes)) mark
-  copied-front mark =
-      ap (λ l. l ++ mark ∷ []) (take-append-add old (take wide bytes) n ∙ ap (λ l. old ++ l) (take-take n wide bytes short ∙ sym front-is))
-      ∙ append_assoc old (escaped (take n bytes)) (mark ∷ [])
+-- those at the front of so many as are copied together
+pub front-is : (bytes : List ℕ) (n wide : ℕ) → n ≤ wide → ArePlain (take wide bytes) → escaped (take n bytes) ≡ take n bytes
+front-is bytes n wide short plain =
+    ap escaped (sym (take-take n wide bytes short))
+    ∙ (plain-front n (take wide bytes) plain ∙ take-take n wide bytes short)

@@ -18,9 +18,6 @@ pub(crate) const TWO_NUMBERS: usize = 42;
 /// The most bytes of four numbers.
 const FOUR_NUMBERS: usize = 84;
 
-/// So many bytes are copied at once.
-const COPIED: usize = 16;
-
 /// How a byte is written that a field must not have: a backslash, a line feed, a carriage return or a tab. None for any
 /// other byte.
 fn escape_of(byte: u8) -> Option<&'static str>
@@ -47,7 +44,7 @@ fn may_be_escaped(byte: u8) -> bool
 
 /// Whether one of these bytes has to be looked at. Most texts have none, so all are tested without a branch.
 #[inline(always)]
-fn has_escaped(bytes: &[u8]) -> bool
+pub(crate) fn has_escaped(bytes: &[u8]) -> bool
     ensures { result ≡ false → ArePlain bytes.now }
 {
     let mut found = false;
@@ -95,24 +92,6 @@ pub fn add_text(line: &mut Vec<u8>, bytes: &[u8], mark: u8) -> Result<(), AllocE
     ensures { OnOk result (line.new.items ≡ line.old.items ++ field (escaped bytes.now) mark) }
 {
     add_escaped(line, bytes)?;
-    line.push(mark)?;
-    Ok(())
-}
-
-/// Adds the first `len` of these bytes as a field, and the tab or the line end after it. Mostly they are few and unchanged: a copy of a
-/// fixed length, of which the end is let go of, takes less time than one of their length.
-#[inline(always)]
-pub fn add_front(line: &mut Vec<u8>, bytes: &[u8], len: usize, mark: u8) -> Result<(), AllocError>
-    requires { len ≤ length bytes.now }
-    ensures { OnOk result (line.new.items
-        ≡ line.old.items ++ field (escaped (take len bytes.now)) mark) }
-{
-    if len > COPIED || bytes.len() < COPIED || has_escaped(&bytes[..COPIED]) {
-        return add_text(line, &bytes[..len], mark);
-    }
-    let end = line.len() + len;
-    line.extend_from_slice(&bytes[..COPIED])?;
-    line.truncate(end);
     line.push(mark)?;
     Ok(())
 }

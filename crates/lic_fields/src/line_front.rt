@@ -1,139 +1,240 @@
-//! What lines begin with: bytes that are the same in all, and two numbers.
+//! Lines that begin with the same bytes and two numbers, and end with a text.
 
-ghost use Rattle.std.specs.Prelude.{◌≡◌, ◌<◌, ◌≤◌, ◌/◌, ◌-◌, ◌++◌, true, OnOk, decimal, drop, length, take};
-ghost use Rattle.lic_fields.specs.Fields.{field};
-ghost use Rattle.lic_fields.specs.Fronts.{last_two};
+ghost use Rattle.std.specs.Prelude.{◌≡◌, ◌<◌, ◌≤◌, ◌+◌, ◌*◌, ◌/◌, ◌%◌, ◌-◌, ◌∷◌, ◌++◌, [], true, IfOk, OnOk, decimal, drop, length, take};
+ghost use Rattle.lic_fields.specs.Fields.{escaped, field};
 
-use crate::{TWO_NUMBERS, write_number};
+use crate::{TWO_NUMBERS, add_text, add_two_numbers, has_escaped, write_number};
 use std::alloc::AllocError;
 use std::marker::Model;
 
-/// So many bytes are copied at once: most lines begin with fewer.
+/// So many bytes of a text are copied at once: most texts have fewer.
+const COPIED: usize = 16;
+
+/// A text of so many bytes, and the line end.
+const ROOM: usize = 17;
+
+/// So many bytes are copied at once: most lines have fewer.
 const BLOCK: usize = 96;
 
 /// The digits of the numbers below 100, two for each.
 static PAIRS: [u8; 200] =
     *b"00010203040506070809101112131415161718192021222324252627282930313233343536373839404142434445464748495051525354555657585960616263646566676869707172737475767778798081828384858687888990919293949596979899";
 
-/// Whether a number has these hundreds, which are not 0: then it has the digits of any other that has them, but for the last two.
+/// Whether a number is one of the hundred from `from` on.
 #[inline(always)]
-fn has_hundreds(n: u64, hundreds: u64) -> bool
-    ensures { result ≡ true → (0 < hundreds) × (n / 100 ≡ hundreds) }
+fn is_near(n: u64, from: u64) -> bool
+    ensures { result ≡ true → (from ≤ n) × (n < from + 100) }
 {
-    (hundreds > 0) & (n / 100 == hundreds)
+    from <= n && n - from < 100
 }
 
-/// Writes the last two digits of a number so that they end at `end`.
+/// Writes the two digits of a number below 100 so that they end at `end`.
 #[inline(always)]
-fn write_last_two(bytes: &mut [u8], end: usize, n: u64)
-    requires { (2 ≤ end) × (end ≤ length bytes.old) }
-    ensures { bytes.new ≡ take (end - 2) bytes.old ++ (last_two n ++ drop end bytes.old) }
+fn write_pair(bytes: &mut [u8], end: usize, pair: u64)
+    requires { (pair < 100) × ((2 ≤ end) × (end ≤ length bytes.old)) }
+    ensures { bytes.new
+        ≡ take (end - 2) bytes.old ++ ((48 + pair / 10) ∷ (48 + pair % 10) ∷ drop end bytes.old) }
 {
-    let from = (n % 100) as usize * 2;
+    let from = pair as usize * 2;
     let (tens, ones) = (PAIRS[from], PAIRS[from + 1]);
     bytes[end - 2] = tens;
     bytes[end - 1] = ones;
 }
 
-/// Adds the first `len` of these bytes. Mostly they are few: a copy of a fixed length, of which the end is let go of, takes less time
-/// than one of their length.
+/// Writes two numbers as fields after the first `same` bytes, a tab after each. Answers where the digits of the first end, and where
+/// both fields end.
 #[inline(always)]
-fn add_block(line: &mut Vec<u8>, bytes: &[u8], len: usize) -> Result<(), AllocError>
-    requires { len ≤ length bytes.now }
-    ensures { OnOk result (line.new.items ≡ line.old.items ++ take len bytes.now) }
+fn write_numbers(bytes: &mut [u8], same: usize, first: u64, second: u64) -> (usize, usize)
+    requires { same + 42 ≤ length bytes.old }
+    ensures first { result.0 ≡ same + length (decimal first) }
+    ensures end { result.1 ≤ same + 42 }
+    ensures written { take result.1 bytes.new
+        ≡ take same bytes.old ++ (field (decimal first) 0x09 ++ field (decimal second) 0x09) }
+    ensures len { length bytes.new ≡ length bytes.old }
 {
-    if len > BLOCK || bytes.len() < BLOCK {
-        return line.extend_from_slice(&bytes[..len]);
+    let mut buffer = [0; 2 * TWO_NUMBERS];
+    let middle = write_number(&mut buffer, TWO_NUMBERS, second, b'\t');
+    let at = write_number(&mut buffer, middle, first, b'\t');
+    bytes[same..same + TWO_NUMBERS].copy_from_slice(&buffer[at..at + TWO_NUMBERS]);
+    (same + (middle - 1 - at), same + (TWO_NUMBERS - at))
+}
+
+/// Adds the first `len` of these bytes, and some after them: mostly they are few, and a copy of a fixed length takes less time.
+#[inline(always)]
+fn add_block(lines: &mut Vec<u8>, bytes: &[u8], len: usize) -> Result<(), AllocError>
+    requires { (96 ≤ length bytes.now) × (len + 17 ≤ length bytes.now) }
+    ensures front { OnOk result (take (length lines.old.items + len) lines.new.items
+        ≡ lines.old.items ++ take len bytes.now) }
+    ensures room { OnOk result (length lines.old.items + len + 17 ≤ length lines.new.items) }
+{
+    if len + ROOM > BLOCK {
+        lines.extend_from_slice(&bytes[..len + ROOM])?;
+        return Ok(());
     }
-    let end = line.len() + len;
-    line.extend_from_slice(&bytes[..BLOCK])?;
-    line.truncate(end);
+    lines.extend_from_slice(&bytes[..BLOCK])?;
     Ok(())
 }
 
-/// What lines begin with: bytes that are the same in all, and two numbers as fields, a tab after each. What was written last is
+/// Adds these bytes, two numbers as fields, and some bytes after them. Answers where the fields end.
+fn add_whole(
+    lines: &mut Vec<u8>,
+    bytes: &[u8],
+    first: u64,
+    second: u64,
+) -> Result<usize, AllocError>
+    ensures front { IfOk result (λ end. take end lines.new.items
+        ≡ lines.old.items ++ (bytes.now ++ (field (decimal first) 0x09 ++ field (decimal second) 0x09))) }
+    ensures room { IfOk result (λ end. end + 17 ≤ length lines.new.items) }
+{
+    lines.extend_from_slice(bytes)?;
+    add_two_numbers(lines, first, second)?;
+    let end = lines.len();
+    lines.extend_from_slice(&[0; ROOM])?;
+    Ok(end)
+}
+
+/// Writes the first `len` bytes of a short text at `end`, and the line end after them.
+#[inline(always)]
+fn write_text(bytes: &mut [u8], end: usize, text: &[u8], len: usize)
+    requires { (len ≤ 16) × ((16 ≤ length text.now) × (end + 17 ≤ length bytes.old)) }
+    ensures written { take (end + len + 1) bytes.new
+        ≡ take end bytes.old ++ (take len text.now ++ 0x0A ∷ []) }
+    ensures len { length bytes.new ≡ length bytes.old }
+{
+    bytes[end..end + COPIED].copy_from_slice(&text[..COPIED]);
+    bytes[end + len] = b'\n';
+}
+
+/// Ends a line at `end`, where some bytes come after it, with the first `len` bytes of a text as its last field. Mostly they are few
+/// and unchanged, and are written over those bytes.
+#[inline(always)]
+fn end_line(lines: &mut Vec<u8>, end: usize, text: &[u8], len: usize) -> Result<(), AllocError>
+    requires { (len ≤ length text.now) × (end + 17 ≤ length lines.old.items) }
+    ensures { OnOk result (lines.new.items
+        ≡ take end lines.old.items ++ field (escaped (take len text.now)) 0x0A) }
+{
+    if len > COPIED || text.len() < COPIED || has_escaped(&text[..COPIED]) {
+        lines.truncate(end);
+        return add_text(lines, &text[..len], b'\n');
+    }
+    write_text(lines, end, text, len);
+    lines.truncate(end + len + 1);
+    Ok(())
+}
+
+/// Adds lines that begin with bytes that are the same in all, and two numbers as fields, a tab after each. What was written last is
 /// kept: the numbers of the next line mostly differ from it in their last two digits alone.
 #[derive(Debug, Drop)]
 pub struct LineFront {
-    // what was written last, or only the bytes that are the same in all; and then any, so that a block can be copied
+    // the bytes that are the same in all, and two numbers of three digits or more; and then any, so that a block can be copied
     bytes: Vec<u8>,
-    // how many bytes that is
-    len: usize,
     // how many bytes are the same in all
     same: usize,
     // where the digits of the first number end
     first_end: usize,
-    // the hundreds of the numbers written last; where the first are 0, there may be no numbers
+    // where both fields end
+    len: usize,
+    // the numbers, with 0 for their last two digits
     first: u64,
     second: u64,
 }
 
 impl Model for LineFront {
-    ghost use Rattle.std.specs.Prelude.{◌≤◌, List, ℕ, length, take};
+    ghost use Rattle.std.specs.Prelude.{List, ℕ, take};
     ghost use Rattle.lic_fields.specs.Fronts.{IsKept};
 
     ghost Value = { List ℕ };
 
-    ghost view = { λ f. take f.same (take f.len f.bytes.items) };
+    ghost view = { λ f. take f.same f.bytes.items };
 
-    ghost invariant = { λ f. (f.len ≤ length f.bytes.items)
-        × IsKept f.same (take f.len f.bytes.items) f.first_end f.first f.second };
+    ghost invariant = { λ f. IsKept f.bytes.items f.same f.first_end f.len f.first f.second };
 }
 
 impl LineFront {
     /// The front of lines that all begin with these bytes.
-    pub fn new(bytes: Vec<u8>) -> LineFront
-        ensures { result ≡ bytes.items }
+    pub fn new(mut bytes: Vec<u8>) -> Result<LineFront, AllocError>
+        ensures { IfOk result (λ front. front ≡ bytes.items) }
     {
         let same = bytes.len();
-        LineFront {
+        bytes.extend_from_slice(&[0; TWO_NUMBERS + BLOCK])?;
+        let (first_end, len) = write_numbers(&mut bytes, same, 100, 100);
+        Ok(LineFront {
             bytes,
-            len: same,
             same,
-            first_end: 0,
-            first: 0,
-            second: 0,
-        }
+            first_end,
+            len,
+            first: 100,
+            second: 100,
+        })
     }
 
-    /// Adds the bytes that are the same in all, and these numbers.
+    /// Adds a line: the bytes that are the same in all, these numbers, and the first `len` bytes of a text.
     #[inline(always)]
-    pub fn add(&mut self, line: &mut Vec<u8>, first: u64, second: u64) -> Result<(), AllocError>
+    pub fn add_line(
+        &mut self,
+        lines: &mut Vec<u8>,
+        first: u64,
+        second: u64,
+        text: &[u8],
+        len: usize,
+    ) -> Result<(), AllocError>
+        requires { len ≤ length text.now }
         ensures same { OnOk result (self.new ≡ self.old) }
-        ensures line { OnOk result (line.new.items ≡ line.old.items
-            ++ (self.old ++ (field (decimal first) 0x09 ++ field (decimal second) 0x09))) }
+        ensures line { OnOk result (lines.new.items ≡ lines.old.items
+            ++ (self.old ++ (field (decimal first) 0x09 ++ (field (decimal second) 0x09
+            ++ field (escaped (take len text.now)) 0x0A)))) }
     {
-        if !(has_hundreds(first, self.first) & has_hundreds(second, self.second)) {
-            return self.add_anew(line, first, second);
-        }
-        let first_end = line.len() + self.first_end;
-        add_block(line, &self.bytes, self.len)?;
-        write_last_two(line, first_end, first);
-        let second_end = line.len() - 1;
-        write_last_two(line, second_end, second);
-        Ok(())
+        let end = self.add_numbers(lines, first, second)?;
+        end_line(lines, end, text, len)
     }
 
-    /// Adds the same, and keeps it.
-    #[inline(never)]
-    fn add_anew(&mut self, line: &mut Vec<u8>, first: u64, second: u64) -> Result<(), AllocError>
+    /// Adds what the line begins with, and some bytes after it. Answers where it ends.
+    #[inline(always)]
+    fn add_numbers(
+        &mut self,
+        lines: &mut Vec<u8>,
+        first: u64,
+        second: u64,
+    ) -> Result<usize, AllocError>
         ensures same { OnOk result (self.new ≡ self.old) }
-        ensures line { OnOk result (line.new.items ≡ line.old.items
-            ++ (self.old ++ (field (decimal first) 0x09 ++ field (decimal second) 0x09))) }
+        ensures front { IfOk result (λ end. take end lines.new.items
+            ≡ lines.old.items ++ (self.old ++ (field (decimal first) 0x09 ++ field (decimal second) 0x09))) }
+        ensures room { IfOk result (λ end. end + 17 ≤ length lines.new.items) }
     {
-        let mut buffer = [0; TWO_NUMBERS];
-        let middle = write_number(&mut buffer, TWO_NUMBERS, second, b'\t');
-        let at = write_number(&mut buffer, middle, first, b'\t');
-        self.first = 0;
-        self.len = self.same;
-        self.bytes.truncate(self.same);
-        self.bytes.extend_from_slice(&buffer[at..])?;
-        line.extend_from_slice(&self.bytes)?;
-        self.len = self.bytes.len();
-        self.bytes.extend_from_slice(&[0; BLOCK])?;
-        self.first_end = self.same + (middle - 1 - at);
-        self.first = first / 100;
-        self.second = second / 100;
-        Ok(())
+        if !(is_near(first, self.first) && is_near(second, self.second)) {
+            return self.add_anew(lines, first, second);
+        }
+        let start = lines.len();
+        let end = start + self.len;
+        add_block(lines, &self.bytes, self.len)?;
+        write_pair(lines, start + self.first_end, first - self.first);
+        write_pair(lines, end - 1, second - self.second);
+        Ok(end)
+    }
+
+    /// Adds the same, and keeps it, if both numbers have three digits or more.
+    #[inline(never)]
+    fn add_anew(
+        &mut self,
+        lines: &mut Vec<u8>,
+        first: u64,
+        second: u64,
+    ) -> Result<usize, AllocError>
+        ensures same { OnOk result (self.new ≡ self.old) }
+        ensures front { IfOk result (λ end. take end lines.new.items
+            ≡ lines.old.items ++ (self.old ++ (field (decimal first) 0x09 ++ field (decimal second) 0x09))) }
+        ensures room { IfOk result (λ end. end + 17 ≤ length lines.new.items) }
+    {
+        if first < 100 || second < 100 {
+            return add_whole(lines, &self.bytes[..self.same], first, second);
+        }
+        let (first_end, len) = write_numbers(&mut self.bytes, self.same, first, second);
+        self.first_end = first_end;
+        self.len = len;
+        self.first = first - first % 100;
+        self.second = second - second % 100;
+        let end = lines.len() + len;
+        add_block(lines, &self.bytes, len)?;
+        Ok(end)
     }
 }

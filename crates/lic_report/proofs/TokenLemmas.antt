@@ -1,5 +1,5 @@
 -- The text of a token, where it is in the canonical spelling.
-use Rattle.std.proofs.Common.{◌≡◌, ℕ, ◌+◌, ◌-◌, ◌≤◌, ◌<◌, List, [], ◌++◌, length, take, drop, get_or, ap, ◌∙◌, arith, length-append, length-drop, take_all, append_assoc}
+use Rattle.std.proofs.Common.{◌≡◌, ℕ, ◌+◌, ◌-◌, ◌≤◌, ◌<◌, List, [], ◌++◌, length, take, drop, get_or, ap, ◌∙◌, arith, length-append, length-drop, take_all}
 use Rattle.std.proofs.Math.Seq.{take-append_seam}
 use Rattle.std.proofs.lemmas.List.{get_or-map}
 use Rattle.std.specs.Prelude.{decimal}
@@ -55,21 +55,13 @@ module _ (tokens : List TokenValue) (i : ℕ) (d : TokenValue) (within : i < len
       ∙ take-append_seam (get_or tokens i d).text front.0
 
 -- the fields of its line, as they are added
-joined : (lines file a b text : List ℕ) → (lines ++ (file ++ (a ++ b))) ++ text ≡ lines ++ (file ++ (a ++ (b ++ text)))
-joined lines file a b text =
-    append_assoc lines (file ++ (a ++ b)) text
-    ∙ ap (λ l. lines ++ l) (append_assoc file (a ++ b) text ∙ ap (λ l. file ++ l) (append_assoc a b text))
-
-pub line-is : (lines file with_numbers with_text name part : List ℕ) (span : Span) (t : TokenValue) (n : ℕ)
+pub line-is : (lines file with_text name part : List ℕ) (span : Span) (t : TokenValue) (n : ℕ)
     → file ≡ field (escaped name) 0x09
-    → with_numbers ≡ lines ++ (file ++ (field (decimal span.start) 0x09 ++ field (decimal span.end) 0x09))
-    → with_text ≡ with_numbers ++ field (escaped (take n part)) 0x0A
+    → with_text ≡ lines ++ (file ++ (field (decimal span.start) 0x09 ++ (field (decimal span.end) 0x09 ++ field (escaped (take n part)) 0x0A)))
     → span ≡ t.span → take n part ≡ t.text
     → with_text ≡ lines ++ token_line name t
-line-is lines file with_numbers with_text name part span t n is_file one two is_span is_text =
-    two
-    ∙ ap (λ l. l ++ field (escaped (take n part)) 0x0A) one
-    ∙ joined lines file (field (decimal span.start) 0x09) (field (decimal span.end) 0x09) (field (escaped (take n part)) 0x0A)
+line-is lines file with_text name part span t n is_file added is_span is_text =
+    added
     ∙ ap (λ l. lines ++ (l ++ (field (decimal span.start) 0x09 ++ (field (decimal span.end) 0x09 ++ field (escaped (take n part)) 0x0A)))) is_file
     ∙ ap (λ s. lines ++ (field (escaped name) 0x09 ++ (field (decimal s.start) 0x09 ++ (field (decimal s.end) 0x09 ++ field (escaped (take n part)) 0x0A)))) is_span
     ∙ ap (λ x. lines ++ (field (escaped name) 0x09 ++ (field (decimal t.span.start) 0x09 ++ (field (decimal t.span.end) 0x09 ++ field (escaped x) 0x0A)))) is_text

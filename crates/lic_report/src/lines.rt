@@ -8,7 +8,7 @@ ghost use Rattle.lic_vars.specs.Views.{value_of};
 ghost use Rattle.lic_report.specs.Checking.{check_line};
 ghost use Rattle.lic_report.specs.Report.{token_line, place_fields, value_line, no_known, no_token};
 
-use lic_fields::{LineFront, add_front, add_number, add_text, add_two_numbers};
+use lic_fields::{LineFront, add_number, add_text, add_two_numbers};
 use lic_norm::{Span, Text};
 use lic_set::Set;
 use lic_vars::Value;
@@ -39,9 +39,8 @@ pub fn add_token(
     let span = text.span(i);
     let Span { start, end } = text.place(i);
     let letters = &text.spelled()[start..];
-    front.add(lines, span.start as u64, span.end as u64)?;
     let len = end - start;
-    add_front(lines, letters, len, b'\n')?;
+    front.add_line(lines, span.start as u64, span.end as u64, letters, len)?;
     Ok(())
 }
 

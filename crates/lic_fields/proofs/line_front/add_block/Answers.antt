@@ -1,12 +1,11 @@
-use Rattle.std.proofs.Common.{◌≡◌, ◌+◌, length, take, ap, ap₂, ◌∙◌, arith}
-use Rattle.std.proofs.lemmas.Grind.{common_steps}
-use Rattle.lic_fields.proofs.PlainBytes.{block_cut}
+use Rattle.std.proofs.Common.{◌≡◌, ◌+◌, ◌≤◌, length, take, arith}
+use Rattle.lic_fields.proofs.LineParts.{block_front, block_room}
 use Rattle.lic_fields.proofs.line_front.add_block.Goals as goal
 
-pub returns : goal.returns
-returns c =
-    let old = c.args.line.now.items in
-    let n = c.args.len in
-    let long : c.len.result ≡ length old = grind (arith, common_steps) in
-    c.truncate.ensures.items ∙ ap₂ take (ap (λ k. k + n) long) c.in_ok-extend_from_slice.ensures.items
-    ∙ block_cut old c.args.bytes.now n 96 (omega (arith, c.if-len-gt-BLOCK.false))
+pub returns-clause-front : goal.returns-clause-front
+returns-clause-front c =
+    block_front c.args.lines.now.items c.args.bytes.now _ c.args.len 96 (omega (arith, c.if-len-gt-BLOCK.false)) c.in_ok-extend_from_slice-2.ensures.items
+
+pub returns-clause-room : goal.returns-clause-room
+returns-clause-room c =
+    block_room c.args.lines.now.items c.args.bytes.now _ c.args.len 96 (omega (arith, c.if-len-gt-BLOCK.false)) c.requires.0 c.in_ok-extend_from_slice-2.ensures.items

@@ -22,8 +22,8 @@ slice_bounds-letters-start c = slice_bounds-letters-count c
 pub overflow_sub-len : goal.overflow_sub-len
 overflow_sub-len c = omega (arith, c.place-start.ensures.start, c.place-start.ensures.end, text-long c.args.text.now.tokens c.args.i no_token c.requires)
 
-pub add_front-requires : goal.add_front-requires
-add_front-requires c =
+pub add_line-requires : goal.add_line-requires
+add_line-requires c =
     let tokens = c.args.text.now.tokens in
     let text = (get_or tokens c.args.i no_token).text in
     let long : c.place-start.result.end - c.place-start.result.start ≡ length text =
@@ -39,6 +39,6 @@ returns-clause-line c name file =
     let text = (get_or tokens c.args.i no_token).text in
     let long : c.place-start.result.end - c.place-start.result.start ≡ length text =
     omega (arith, c.place-start.ensures.start, c.place-start.ensures.end, text-long tokens c.args.i no_token c.requires) in
-    line-is c.args.lines.now.items c.args.front.now _ _ name _ c.span.result (get_or tokens c.args.i no_token) _ file
-    c.in_ok-add.ensures.line c.in_ok-add_front.ensures (c.span.ensures no_token)
+    line-is c.args.lines.now.items c.args.front.now _ name _ c.span-span.result (get_or tokens c.args.i no_token) _ file
+    c.in_ok-add_line.ensures.line (c.span-span.ensures no_token)
     (ap₂ take long part ∙ text-taken tokens c.args.i no_token c.requires)

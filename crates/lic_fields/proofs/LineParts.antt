@@ -1,0 +1,64 @@
+-- Parts of a line that are written over others, and blocks of which the front counts.
+use Rattle.std.proofs.Common.{◌≡◌, ℕ, ◌+◌, ◌-◌, ◌<◌, ◌≤◌, List, [], ◌∷◌, ◌++◌, length, take, drop, set, sym, ap, ap₂, ◌∙◌, arith, append_assoc, length-append, length-drop}
+use Rattle.std.proofs.Math.Seq.{take-append-add, take-append_seam}
+use Rattle.std.proofs.lemmas.List.{length-take-le, take-append-le, take-take, take_more_set}
+use Rattle.lic_fields.specs.Fields.{escaped, field}
+use Rattle.lic_fields.proofs.PlainBytes.{block_cut}
+use borrow.Rule.Slice.PartMut.{put_mid}
+
+-- what is written over the bytes from a place on, and the first of it
+pub take_put : (bytes mid : List ℕ) (a k m : ℕ) → a ≤ length bytes → m ≤ length mid → take (a + m) (put_mid a k bytes mid) ≡ take a bytes ++ take m mid
+take_put bytes mid a k m fits short =
+    ap (λ n. take (n + m) (put_mid a k bytes mid)) (sym (length-take-le a bytes fits))
+    ∙ (take-append-add (take a bytes) _ m ∙ ap (λ l. take a bytes ++ l) (take-append-le m mid _ short))
+
+pub put_long : (bytes mid : List ℕ) (a k : ℕ) → a ≤ length bytes → length (put_mid a k bytes mid) ≡ a + (length mid + (length bytes - a - k))
+put_long bytes mid a k fits =
+    length-append (take a bytes) _
+    ∙ ap₂ (λ x y. x + y) (length-take-le a bytes fits)
+    (length-append mid _ ∙ ap (λ n. length mid + n) (length-drop k (drop a bytes) ∙ ap (λ n. n - k) (length-drop a bytes)))
+
+-- both of two parts, of which the first is followed by the second
+pub both_taken : (x y rest : List ℕ) (n : ℕ) → n ≡ length x + length y → take n (x ++ (y ++ rest)) ≡ x ++ y
+both_taken x y rest n long =
+    ap₂ take (long ∙ sym (length-append x y)) (sym (append_assoc x y rest)) ∙ take-append_seam (x ++ y) rest
+
+-- a text at `end`, and the line end after it
+pub text_written : (bytes text mid : List ℕ) (end len : ℕ) → len ≤ 16 → 16 ≤ length text → end + 17 ≤ length bytes → mid ≡ take 16 text
+    → take (end + len + 1) (set (put_mid end (end + 16 - end) bytes mid) (end + len) 0x0A) ≡ take end bytes ++ (take len text ++ 0x0A ∷ [])
+text_written bytes text mid end len short long fits is =
+    let mid_long : length mid ≡ 16 = ap length is ∙ length-take-le 16 text long in
+    let whole = put_long bytes mid end (end + 16 - end) (omega (arith, fits)) in
+    take_more_set (put_mid end (end + 16 - end) bytes mid) (end + len) 0x0A (omega (arith, whole, mid_long, fits, short))
+    ∙ (ap (λ l. l ++ 0x0A ∷ []) (take_put bytes mid end (end + 16 - end) len (omega (arith, fits)) (omega (arith, mid_long, short))
+    ∙ ap (λ l. take end bytes ++ l) (ap (take len) is ∙ take-take len 16 text short))
+    ∙ append_assoc (take end bytes) (take len text) (0x0A ∷ []))
+
+-- two parts of a buffer, of which 42 bytes are written over those from `same` on
+pub parts_written : (bytes mid buffer x y rest : List ℕ) (same at : ℕ) → same + 42 ≤ length bytes → at ≤ 42 → length buffer ≡ 84
+    → mid ≡ take (at + 42 - at) (drop at buffer) → drop at buffer ≡ x ++ (y ++ rest) → length x + length y ≡ 42 - at
+    → take (same + (42 - at)) (put_mid same (same + 42 - same) bytes mid) ≡ take same bytes ++ (x ++ y)
+parts_written bytes mid buffer x y rest same at fits low long is parts lens =
+    let all : at + 42 - at ≡ 42 = omega arith in
+    let mid_is : mid ≡ take 42 (drop at buffer) = is ∙ ap (λ n. take n (drop at buffer)) all in
+    let after : length (drop at buffer) ≡ 84 - at = length-drop at buffer ∙ ap (λ n. n - at) long in
+    let mid_long : length mid ≡ 42 = ap length mid_is ∙ length-take-le 42 (drop at buffer) (omega (arith, after, low)) in
+    take_put bytes mid same (same + 42 - same) (42 - at) (omega (arith, fits)) (omega (arith, mid_long))
+    ∙ ap (λ l. take same bytes ++ l)
+    (ap (take (42 - at)) mid_is ∙ (take-take (42 - at) 42 (drop at buffer) (omega arith)
+    ∙ (ap (take (42 - at)) parts ∙ both_taken x y rest (42 - at) (sym lens))))
+
+-- a block that was added, and its front
+pub block_front : (old bytes new : List ℕ) (n wide : ℕ) → n ≤ wide → new ≡ old ++ take wide bytes → take (length old + n) new ≡ old ++ take n bytes
+block_front old bytes new n wide short is = ap (take (length old + n)) is ∙ block_cut old bytes n wide short
+
+pub block_room : (old bytes new : List ℕ) (n wide : ℕ) → n + 17 ≤ wide → wide ≤ length bytes → new ≡ old ++ take wide bytes → length old + n + 17 ≤ length new
+block_room old bytes new n wide fits within is =
+    let long = ap length is ∙ length-append old (take wide bytes) in
+    let taken = length-take-le wide bytes within in
+    omega (arith, long, taken, fits)
+
+-- a line that is cut after a text of which nothing is escaped
+pub line_cut : (bytes text : List ℕ) (end len : ℕ) → escaped (take len text) ≡ take len text
+    → take end bytes ++ (take len text ++ 0x0A ∷ []) ≡ take end bytes ++ field (escaped (take len text)) 0x0A
+line_cut bytes text end len plain = ap (λ l. take end bytes ++ field l 0x0A) (sym plain)
