@@ -8,8 +8,8 @@
 - NAME-field-r: a field of an R package with a file beside the licence: `License: MIT + file LICENSE`.
 
 A name goes on with a dash, an underscore, a plus, the word `with`, or a dot and a number; before a closing quote with a dot and a word of at most 13
-characters. (Elsewhere a dot and a word are the end of a sentence and another one. Each word that `next` can reach costs a try at each `license:`: with
-a reach of 60 the set took a tenth to a fifth longer on sources.) One template of all names would be less, but is tried at each `license` of a file.
+characters. (Elsewhere a dot and a word are the end of a sentence and another one.) Each has a text with its name in it, so that it is tried where that
+is: one template of all names, or one of a short name for all forms, would be tried at each `license` of a file.
 """
 import os
 import re

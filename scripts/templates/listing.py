@@ -148,7 +148,7 @@ def kinds(seen):
 def made_fields(made, seen):
     """A line for each frame of the fields that fields.py makes, and one of those that are cut; then the names of all of them."""
     names_of_made = fields.names()
-    for title, text in [*((f"NAME-field{suffix}", text) for suffix, text in tags.SHORT_FIELDS.items()), ("NAME-field", tags.FIELD), ("NAME-field-r", fields.WITH_FILE)]:
+    for title, text in [*((f"NAME-field{suffix}", text) for suffix, text in tags.SHORT_FIELDS.items()), ("NAME-field-u", tags.MIDDLE_FIELDS["-u"]), ("NAME-field", tags.FIELD), ("NAME-field-r", fields.WITH_FILE)]:
         these = {text.format(name) for name in names_of_made + fields.OF_R}
         alike = [it for it in sorted(seen) if len(seen[it]) == 3 and made.get(it) in these]
         real = seen[alike[0]] if alike else None

@@ -3,8 +3,8 @@
 
 - `check` says `yes` of it, with examples/words and without.
 - Its original text is found as a comment in each of the styles below, among all templates.
-- The templates of tags and fields are those that tags.py, fields.py and expressions.py make of the lists beside them, and there are no others; those
-  of examples/expressions are those of whole_expressions.py.
+- The templates of tags, fields and longer identifiers are those that tags.py, fields.py, longer.py and expressions.py make of the lists beside them,
+  and there are no others; those of examples/expressions are those of whole_expressions.py.
 - In fields of manifests, headers and copyright files each name is reported as itself, if at all, and one that goes on after it as cut.
 - Tags that hold an expression are reported by one template each, with the value that is expected; random ones whole, or by a template that says that
   they are cut; by examples/expressions whole.
@@ -184,6 +184,17 @@ SENTENCES = [
     ("License: GPL-3 + file LICENSE", ["GPL-3"], []),
     ("License: MIT. Author: A. Author", ["MIT"], []),
     ("License :: OSI Approved :: MIT No Attribution License (MIT-0)", [], []),
+    ("licensed under the BSD-3-Clause-Clear license", ["BSD-3-Clause-Clear"], []),
+    ("Licensed under the terms of the BSD-2-Clause-Patent", ["BSD-2-Clause-Patent"], []),
+    ("Licensed under BSD-3-Clause - see LICENSE", ["BSD-3-Clause"], []),
+    ("you may modify it under MIT-0", ["MIT-0"], []),
+    ("released under MIT-CMU", ["MIT-CMU"], []),
+    ("released under the GPL-2.0-only", ["GPL-2.0-only"], []),
+    ("Licensed under MPL-2.0-no-copyleft-exception", ["MPL-2.0-no-copyleft-exception"], []),
+    ("License: [MIT](LICENSE)", ["MIT"], []),
+    ("license: ['ISC-Own']", ["cut-ISC"], []),
+    ("license = [\"BSL-1.0\"]", ["BSL-1.0"], []),
+    ("license = \"MPL-2.0.Own\"", ["cut-MPL-2.0"], []),
     ("redistribute it and/or modify it under the terms of the GNU LGPL version 2.1", ["LGPL-2.1"], []),
     ("modify it\n# under the terms and conditions of the GNU General Public License, version 2,\n# as published", ["GPL-2.0"], []),
     ("modify it under the terms of the GNU General Public License version 2 as published by the Free Software Foundation", ["GPL-2.0-only"], []),
@@ -314,13 +325,13 @@ def not_found(program, both, style):
 
 
 def not_made():
-    """How the templates of tags and fields differ from those that tags.py, fields.py and expressions.py make."""
+    """How the templates of tags, fields and longer identifiers differ from those that the scripts make."""
     with tempfile.TemporaryDirectory() as folder:
-        for script in (["tags.py", "--list", f"{HERE}/tags.txt"], ["fields.py"], ["expressions.py"]):
+        for script in (["tags.py", "--list", f"{HERE}/tags.txt"], ["fields.py"], ["longer.py"], ["expressions.py"]):
             subprocess.run([sys.executable, f"{HERE}/{script[0]}", *script[1:], folder], check=True)
         made = read_templates(folder)
-    kept = {id: text for id, text in read_templates(starter.GRANTS).items() if re.search("-(identifier|field)(-[b-z])?(-dot)?$|^expression-|^cut-", id)}
-    kept = {id: text for id, text in kept.items() if re.search("-identifier|^expression-|^cut-", id) or not BY_HAND.search(text)}
+    kept = {id: text for id, text in read_templates(starter.GRANTS).items() if re.search("-(identifier|field)(-[b-z])?(-dot)?$|-notice-x$|^expression-|^cut-", id)}
+    kept = {id: text for id, text in kept.items() if re.search("-identifier|-notice-x$|^expression-|^cut-", id) or not BY_HAND.search(text)}
     return [f"{id}: not as tags.py makes it" for id in sorted(made.keys() | kept.keys()) if made.get(id) != kept.get(id)]
 
 

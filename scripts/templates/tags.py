@@ -3,9 +3,9 @@
 
 Each template goes to OUT/NAME-identifier.template.txt and describes `SPDX-License-Identifier: IDENTIFIER`. With --field it goes
 to OUT/NAME-field.template.txt and describes the field of a manifest or header: `"license": "IDENTIFIER"`, `license = "IDENTIFIER"`,
-`:license: IDENTIFIER`. An identifier of less than eight letters has seven templates, NAME-field, NAME-field-b ..: for it alone a file
-would be searched for the word `license`, which is frequent. NAME is the identifier, with `-` for blanks and without parentheses. A file
-of that name is written anew.
+`:license: IDENTIFIER`. An identifier of seven letters has six templates, NAME-field, NAME-field-e .., and a shorter one thirteen,
+NAME-field, NAME-field-b ..: a file is searched for the longest text of a template, and with one for all forms that would be the word
+`license`, which is frequent. NAME is the identifier, with `-` for blanks and without parentheses. A file of that name is written anew.
 
 Identifiers come from the command line, from FILE (one on each line; `#` begins a comment), and from the names of the templates in
 DIR: `tags.py --folder license-list-data/template OUT` makes a tag for each licence that is published. An expression is one
@@ -34,23 +34,37 @@ def optional(text):
 
 # a quote, underscores, a colon or an equals sign, the end of a tag of XML, a bracket, a quote
 FIELD = "license " + "".join(map(optional, ['"', "__", ":", "=", ">", "[", '"'])) + "{}\n"
-# the same in forms that have a text of their own, by the ends of the templates' names
+# The same of an identifier that is not longer than `license`: each form has a text with the identifier in it that is. Of one of seven letters that is
+# the identifier with its quote.
+MIDDLE_FIELDS = {
+    "": "license: {}\n",
+    "-e": "license {}\n",
+    "-m": "license: [{}\n",
+    "-p": "license = {}\n",
+    "-u": FIELD.replace(optional('"') + "{}", '"{}'),
+    "-x": "license>{}\n",
+}
 SHORT_FIELDS = {
-    "": f"license: {optional('[')}{optional(chr(34))}{{}}\n",
-    "-b": f"license\": {optional('[')}{optional(chr(34))}{{}}\n",
-    "-c": f"license = {optional('[')}{optional(chr(34))}{{}}\n",
+    "": "license: {}\n",
+    "-b": "license\": \"{}\n",
+    "-c": "license = \"{}\n",
     "-d": "license__ = \"{}\n",
     "-e": "license {}\n",
     "-f": "license \"{}\n",
+    "-l": "license: \"{}\n",
+    "-m": "license: [{}\n",
+    "-n": "license: [\"{}\n",
+    "-o": "license\": [\"{}\n",
+    "-p": "license = {}\n",
+    "-q": "license = [\"{}\n",
     "-x": "license>{}\n",
 }
-# a template is found by its longest text: by the identifier, if that is longer than `license`
-LONG_IDENTIFIER = 8
 
 
 def fields_of(identifier):
     """The ends of the names of the templates of a field, and their texts."""
-    texts = {"": FIELD} if len(identifier) >= LONG_IDENTIFIER else SHORT_FIELDS
+    longer = len(identifier) - len("license")
+    texts = {"": FIELD} if longer > 0 else MIDDLE_FIELDS if longer == 0 else SHORT_FIELDS
     return [("-field" + letter, text) for letter, text in texts.items()]
 
 
