@@ -10,6 +10,7 @@ import re
 import textwrap
 
 import fields
+import longer
 import starter
 import tags
 
@@ -33,15 +34,20 @@ each variable. Then a real example: a project in whose files it was found, a fil
 there (`scripts/trial/forms.py --examples`). Where the same words with another name or version are a
 template, too, and were found, that is the example. What the endings of names mean is in [the
 manual](../docs/MANUAL.md#where-templates-come-from).
+
+Each form was found in two unrelated projects. A form is a wording: with the names and versions that
+fill it (`licensed under the terms of NAME version 2`, each kind of field) it is one form, and so is
+each name in its spelling (`scripts/trial/forms.py` counts). What no project is known to have is here
+where it is a guard: it keeps a shorter template from saying what is not so.
 """
 SECTIONS = [
     ("text", "Texts", "Whole texts, or as much of them as tells them from others."),
-    ("notice", "Notices", "Short notices, and sentences that give a licence. Each was found in two unrelated projects, that of FreeType in files that another one took over; libpng's own notice, in libpng alone, is not in the set. "
-     "Where a name and a version fill a frame (`licensed under the terms of NAME version 2`, and all fields), the frame was, and so was the name in its spelling (`scripts/trial/forms.py`), but for the field AFL-3.0. "
-     "`GPL-2.0-or-later-notice-i`, `-m` and their like, which no project was found to have, keep what they describe from being `GPL-2.0-only`. Longer names of fields than one in use are those that SPDX publishes."),
+    ("notice", "Notices", "Short notices, and sentences that give a licence. That of FreeType was found in files that other projects took over; libpng's own notice, in libpng alone, is not in the set."),
     ("no-grant", "Words that give no licence", "They keep a sentence from being called a grant."),
     ("mention", "Mentions", "Names in words, in `examples/mentions`."),
 ]
+# templates that no project is known to have, and what would be said without them
+GUARDED = [(r"(.*)-or-later-notice-m", r"\1-only"), (r"(.*(?<!LGPL-2.0))-or-later-notice-i", r"\1-only"), (r"no-grant-mention-l", "public-domain")]
 # the kinds of tags, and what each describes
 TAGS = [
     (r"[A-Z].*(?<!Ref)-identifier", "NAME-identifier", "`SPDX-License-Identifier: NAME`"), (r"(?!Lic|Doc).*-identifier-b", "NAME-identifier-b", "the same in parentheses"),
@@ -120,18 +126,22 @@ def frame_of(template):
 
 
 def place(row):
-    """A project, and a file of it where that is known."""
-    return f" In `{row[0]}`" + (f" (`{row[1]}`)" if len(row) > 1 else "")
+    """A project, and a file of it."""
+    return f" In `{row[0]}` (`{row[1]}`)"
+
+
+def guarded(name):
+    """What would be said of a text without a template that no project is known to have; none of others."""
+    return next((re.sub(pattern, what, name) for pattern, what in GUARDED if re.fullmatch(pattern, name)), None)
 
 
 def example_of(name, template, found, seen):
-    """A real example of a template, or of one that is the same with another name. Of some the project alone is known."""
+    """A real example of a template, or of one that is the same with another name."""
     family = [name] + [it for it in found if frame_of(found[it]) == frame_of(template)]
     real = next((it for it in family if len(seen.get(it, ())) == 3), None)
-    project = place(seen[name]) + "." if name in seen and real != name else ""
     if real is None:
-        return project
-    return f"{project}{place(seen[real])}{'' if real == name else f', `{real}`'}: {shown(seen[real][2])}"
+        return f" A guard: else `{guarded(name)}`." if guarded(name) else ""
+    return f"{place(seen[real])}{'' if real == name else f', `{real}`'}: {shown(seen[real][2])}"
 
 
 def item(name, template, found, seen):
@@ -142,21 +152,27 @@ def kinds(seen):
     """A line for each kind of tag."""
     for pattern, title, text in TAGS:
         real = next((it for it in sorted(seen) if re.fullmatch(pattern, it) and len(seen[it]) == 3 and "-field" not in it), None)
-        yield wrapped(f"- `{title}`: {text}." + (f"{place(seen[real])}, `{real}`: {shown(seen[real][2])}" if real else ""), "  ")
+        yield wrapped(f"- `{title}`: {text}." + (f"{place(seen[real])}, `{real}`: {shown(seen[real][2])}" if real else " Found nowhere yet: SPDX's grammar has it."), "  ")
 
 
 def made_fields(made, seen):
-    """A line for each frame of the fields that fields.py makes, and one of those that are cut; then the names of all of them."""
+    """A line for each frame of the fields that fields.py makes, and one of those that are cut; then the names of all of them. Of a frame that was found
+    with a longer name alone, which has another template, the example is that of the frame."""
     names_of_made = fields.names()
     for title, text in [*((f"NAME-field{suffix}", text) for suffix, text in tags.SHORT_FIELDS.items()), ("NAME-field-u", tags.MIDDLE_FIELDS["-u"]), ("NAME-field", tags.FIELD), ("NAME-field-r", fields.WITH_FILE)]:
         these = {text.format(name) for name in names_of_made + fields.OF_R}
         alike = [it for it in sorted(seen) if len(seen[it]) == 3 and made.get(it) in these]
-        real = seen[alike[0]] if alike else None
-        yield wrapped(f"- `{title}`: {shown(original_of(text.format('NAME')))}." + (f"{place(real)}, `{alike[0]}`: {shown(real[2])}" if real else ""), "  ")
+        real = seen[alike[0]] if alike else seen[title]
+        yield wrapped(f"- `{title}`: {shown(original_of(text.format('NAME')))}.{place(real)}{f', `{alike[0]}`' if alike else ''}: {shown(real[2])}", "  ")
     real = next((it for it in sorted(seen) if re.match("cut-.*-field", it)), None)
     yield wrapped("- `cut-NAME-field`, `-b` ..: each of these where the name goes on, as `MIT-Own`." + (f"{place(seen[real])}, `{real}`: {shown(seen[real][2])}" if real else ""), "  ")
-    yield "\nNAME is\n"
+    yield "\nNAME is one of these; those that SPDX publishes and that go on after another one are guards of that:\n"
     yield wrapped(", ".join(sorted(set(names_of_made))))
+
+
+def longer_notices():
+    """A line for the notices that longer.py makes."""
+    yield wrapped(f"- `NAME-notice-x`: {shown(original_of(longer.FRAME.format('NAME')))}, with a longer identifier, a guard: else the shorter one. NAME is " + ", ".join(sorted(longer.names())) + ".", "  ")
 
 
 def names(kind, found, pattern):
@@ -168,7 +184,8 @@ def page():
     found, seen = read(), examples()
     lines = [HEAD]
     for kind, title, sentence in SECTIONS:
-        lines += [f"## {title}\n", wrapped(sentence) + "\n", "\n".join(item(*it, found[kind], seen) for it in sorted(found[kind].items())) + "\n"]
+        these = [item(*it, found[kind], seen) for it in sorted(found[kind].items()) if not it[0].endswith("-notice-x")]
+        lines += [f"## {title}\n", wrapped(sentence) + "\n", "\n".join(these + (list(longer_notices()) if kind == "notice" else [])) + "\n"]
     made = dict(fields.templates())
     by_hand = {it: text for it, text in found["field"].items() if it not in made}
     lines += ["## Fields\n", "Fields of manifests and headers. Of each name there are these:\n", "\n".join(made_fields(made, seen)) + "\n"]
@@ -180,9 +197,11 @@ def page():
 
 
 def faults():
-    """Whether the page is as it is made."""
+    """Whether the page is as it is made, and each template has an example there or is a guard."""
     with open(PAGE, encoding="utf-8") as file:
-        return [] if file.read() == page() else ["examples/TEMPLATES.md: not as listing.py makes it"]
+        found = [] if file.read() == page() else ["examples/TEMPLATES.md: not as listing.py makes it"]
+    without = [it for it in re.findall(r"^- .*(?:\n  .*)*", page(), re.M) if not re.search(r"\sIn\s+`|[Aa]\s+guard: else|SPDX's grammar has it", re.sub(r"\n  ", " ", it))]
+    return found + [f"examples/TEMPLATES.md: no example: {it}" for it in without]
 
 
 def main():

@@ -2,7 +2,7 @@
 """Makes the notices of longer identifiers: longer.py OUT
 
 NAME-notice-x, of each published identifier that goes on after one with which a notice ends, as BSD-3-Clause-Clear does after BSD-3-Clause: without it
-`licensed under the BSD-3-Clause-Clear license` would be reported as BSD-3-Clause. It is the frame of those notices. (A notice of BSD-3-Clause and any
+`licensed under the BSD-3-Clause-Clear license` would be reported as BSD-3-Clause. The frames are those of these notices. (A notice of BSD-3-Clause and any
 mark would take `under BSD-3-Clause - see LICENSE`, too.)
 """
 import os
@@ -14,8 +14,8 @@ import tags
 VERB = ('<<var;name="verb";original="licensed";match="licen[cs]ed|released|distributed|redistributed|available|published|provided|covered|copied|modify it|redistribute it|distribute it|modified|used">>'
         " under")
 FRAME = VERB + "<<beginOptional>>:<<endOptional>> " + "".join(map(tags.optional, ["the ", "terms " + tags.optional("and conditions ") + "of ", "the "])) + "{}\n"
-# without words before a name that is short, since a template is looked for by its longest text
-SHORT_FRAME = VERB + " {}\n"
+# those of notices that have less before the name
+FRAMES = {"MIT": VERB + " {}\n"} | dict.fromkeys(["AGPL", "GPL", "LGPL"], f"{VERB} {tags.optional('the ')}{{}}\n")
 # the identifiers with which notices end, and what goes on as others of their notices have it
 SHORTER = "AGPL-3.0 Apache-2.0 BSD-2-Clause BSD-3-Clause GPL-2.0 GPL-3.0 LGPL-2.0 LGPL-2.1 LGPL-3.0 MIT MPL-2.0".split()
 KNOWN = ("+", "-or-later")
@@ -29,7 +29,7 @@ def names():
 def templates():
     """The names and the texts of all of them."""
     for name in names():
-        yield f"{name}-notice-x", (SHORT_FRAME if fields.begins("MIT", name) else FRAME).format(name)
+        yield f"{name}-notice-x", FRAMES.get(name.split("-")[0], FRAME).format(name)
 
 
 def main():

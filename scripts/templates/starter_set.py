@@ -11,7 +11,7 @@
 - Sentences that give a licence, and those that only name one, are reported by what is expected, without the mentions and with them.
 - No template of examples/templates is looked for by a text of less than seven letters, which costs time at each byte of every file; no variable is
   unbounded, since one after the text by which a file is searched is tried as far as it reaches.
-- The page of all templates is as listing.py makes it.
+- The page of all templates is as listing.py makes it; each has an example there, or is a guard: without it a shorter one would be found.
 """
 import os
 import re
@@ -22,6 +22,7 @@ import tempfile
 import fields
 import harness
 import listing
+import longer
 import random_tags
 import starter
 import whole_expressions
@@ -67,7 +68,6 @@ SENTENCES = [
     ("you can redistribute it and/or modify it under the terms of the Simplified BSD License", ["BSD-2-Clause"], []),
     ("MIT Licensed", ["MIT"], []),
     ("\"license\" : [ \"perl_5\" ],", ["Artistic-1.0-Perl-OR-GPL-1.0-or-later"], []),
-    ("license: lgpl_2_1", ["LGPL-2.1"], []),
     ("\"LICENSE\" => \"perl\",", ["Artistic-1.0-Perl-OR-GPL-1.0-or-later"], []),
     ("License: GPLv2+", ["GPLv2+"], []),
     ("released under the LGPLv2", ["LGPL-2.0"], []),
@@ -134,7 +134,6 @@ SENTENCES = [
     ("available under the terms of the Academic Free License (AFL), Version 2.0", ["AFL-2.0"], []),
     ("released under the Academic Free License", ["AFL"], []),
     ("License :: OSI Approved :: Academic Free License (AFL)", ["AFL"], []),
-    ("\"license\": \"AFL-3.0\",", ["AFL-3.0"], []),
     ("Compare the Academic Free License", [], ["AFL-mention"]),
     ("It is not licensed under the Academic Free License", ["no-grant-mention"], []),
     ("Licensed under the Apache License", ["Apache"], []),
@@ -158,7 +157,6 @@ SENTENCES = [
     ("released under the PHP License, version 3.01", ["PHP-3.01"], []),
     ("Licensed under the Python Software Foundation License", ["PSF-2.0"], []),
     ("// Licence:     wxWindows licence", ["wxWindows"], []),
-    ("License :: OSI Approved :: The Unlicense (Unlicense)", ["Unlicense"], []),
     ("License :: OSI Approved :: zlib/libpng License", ["Zlib"], []),
     ("License-Expression: MIT\n# License-File: LICENSE", ["MIT"], []),
     ("License-Expression: MIT-CMU\n# License-File: LICENSE", [], []),
@@ -193,6 +191,7 @@ SENTENCES = [
     ("Licensed under MPL-2.0-no-copyleft-exception", ["MPL-2.0-no-copyleft-exception"], []),
     ("License: [MIT](LICENSE)", ["MIT"], []),
     ("license: ['ISC-Own']", ["cut-ISC"], []),
+    ("\"license\": [\"lgpl_2_1\"],", ["LGPL-2.1"], []),
     ("license = [\"BSL-1.0\"]", ["BSL-1.0"], []),
     ("license = \"MPL-2.0.Own\"", ["cut-MPL-2.0"], []),
     ("redistribute it and/or modify it under the terms of the GNU LGPL version 2.1", ["LGPL-2.1"], []),
@@ -390,6 +389,18 @@ def wrong_fields(program, folder):
     return faults
 
 
+def not_guarding(program):
+    """The templates that are there as guards alone whose text is not called by what they guard where none of them is there."""
+    guards = {id: listing.guarded(id) or max((it for it in longer.SHORTER if longer.fields.begins(it, id)), key=len, default=None)
+              for id in read_templates(starter.GRANTS) if listing.guarded(id) or id.endswith("-notice-x")}
+    with starter.both() as both:
+        texts = {id: original_of(text) for id, text in read_templates(both).items() if id in guards}
+        for id in guards:
+            os.remove(os.path.join(both, id + ENDING))
+        found = {id: {SUFFIX.sub("", it[1]) for it in reported(program, both, f"# {text}\n") if it[0]} for id, text in texts.items()}
+    return [f"{id}: without it {sorted(found[id])}, not {it}" for id, it in guards.items() if it not in found[id]]
+
+
 def costly():
     """The templates of grants that are looked for by a short text, and those with a variable without a bound."""
     texts = {id: listing.texts(text) for id, text in read_templates(starter.GRANTS).items()}
@@ -414,6 +425,7 @@ def main():
         tally.add("expressions, whole", wrongly_reported(program, starter.EXPRESSIONS, WHOLE_TAGS))
         tally.add("random expressions, whole", random_tags.trial(program, starter.EXPRESSIONS, RANDOM_WHOLE_TAGS, 40, 1, whole=True)[0])
         tally.add("called by another", wrongly_called(program, both))
+        tally.add("guards", not_guarding(program))
         tally.add("fields", wrong_fields(program, starter.GRANTS))
         for style in STYLES:
             tally.add(f"comments, {style}", not_found(program, both, style))

@@ -3,7 +3,7 @@
 
 Each template goes to OUT/NAME-identifier.template.txt and describes `SPDX-License-Identifier: IDENTIFIER`. With --field it goes
 to OUT/NAME-field.template.txt and describes the field of a manifest or header: `"license": "IDENTIFIER"`, `license = "IDENTIFIER"`,
-`:license: IDENTIFIER`. An identifier of seven letters has six templates, NAME-field, NAME-field-e .., and a shorter one thirteen,
+`:license: IDENTIFIER`. An identifier of seven letters has six templates, NAME-field, NAME-field-e .., and a shorter one twelve,
 NAME-field, NAME-field-b ..: a file is searched for the longest text of a template, and with one for all forms that would be the word
 `license`, which is frequent. NAME is the identifier, with `-` for blanks and without parentheses. A file of that name is written anew.
 
@@ -56,7 +56,6 @@ SHORT_FIELDS = {
     "-n": "license: [\"{}\n",
     "-o": "license\": [\"{}\n",
     "-p": "license = {}\n",
-    "-q": "license = [\"{}\n",
     "-x": "license>{}\n",
 }
 

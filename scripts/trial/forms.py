@@ -20,6 +20,7 @@ import sys
 import tempfile
 
 sys.path.append(os.path.join(os.path.dirname(os.path.abspath(__file__)), "..", "templates"))
+import listing
 import starter
 
 SAYS = (b"licen", b"copyright", b"warrant", b"permission", b"public domain", b"redistribut")
@@ -29,7 +30,7 @@ HOSTS = re.compile(r"(github|gitlab|golang|gopkg|google|k8s)\.\w+$|src$")
 TOOLS = re.compile(r"config\.(guess|sub)|install-sh|ltmain\.sh|missing|depcomp|compile|mkinstalldirs|ylwrap|aclocal\.m4|configure|Makefile\.in(\.in)?|"
                    r"(lt|libtool|pkg|ax_).*\.m4|texinfo\.tex|test-driver|ar-lib|py-compile|INSTALL")
 # tags are made of the list of identifiers; some templates keep others from being wrong
-OTHERS = re.compile("cut-|expression-|.*-identifier(-[b-z])?(-dot)?$|no-grant-|(OR|AND)-field")
+OTHERS = re.compile("cut-|expression-|.*-identifier(-[b-z])?(-dot)?$|no-grant-|(OR|AND)-field|.*-notice-x$")
 OPTIONAL = r"<<beginOptional>>(?:[^<]|<<beginOptional>>[^<]*<<endOptional>>)*<<endOptional>>"
 # what is before the name, in a form that any name fills
 FRAME = re.compile(rf'((<<var;name="verb".*?>> |licensed |distributed |distribute this file )?under(?:{OPTIONAL}|\s|the |terms of the |either of )+|'
@@ -103,7 +104,7 @@ def templates(folder):
 
 def forms():
     """The templates of texts, notices and fields."""
-    return {id: text for id, text in templates(starter.GRANTS).items() if not OTHERS.match(id)}
+    return {id: text for id, text in templates(starter.GRANTS).items() if not OTHERS.match(id) and not listing.guarded(id)}
 
 
 def words_of(path, start, end):
