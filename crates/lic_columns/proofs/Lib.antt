@@ -35,3 +35,6 @@ pub mod Borders
 pub mod PlainLines
 pub mod LetterTexts
 pub mod FrontLines
+pub mod OwnLanes
+pub mod OwnLetters
+pub mod OwnRuns

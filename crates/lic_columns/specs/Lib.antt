@@ -13,3 +13,4 @@ pub mod Edges
 pub mod TokenPlaces
 pub mod Simple
 pub mod PlainLines
+pub mod OwnLetters

@@ -9,6 +9,7 @@ pub mod laws;
 mod lines;
 mod marks;
 mod mask;
+mod own;
 mod places;
 mod plain;
 mod tokens;

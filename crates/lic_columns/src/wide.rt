@@ -5,6 +5,7 @@ ghost use Rattle.std.specs.Char.{IsScalar, encode_utf8, len_utf8};
 ghost use Rattle.lic_kind.specs.Kinds.{kind_of, spell};
 ghost use Rattle.lic_columns.specs.Simple.{ArePut, AreOwn, IsNoFront, IsSimple, in_place};
 
+use crate::own::letters_front;
 use lic_kind::{Kind, is_dash, is_quote, kind_of, spell, word_letter};
 use std::alloc::{AllocError, Global};
 use std::simd::prelude::*;
@@ -129,17 +130,17 @@ fn ascii_front(bytes: &[u8]) -> usize
     }
 }
 
-/// How many bytes stay as they are at the start of these: some of ASCII, or a letter that is its own; or else 0.
+/// How many bytes stay as they are at the start of these: some of ASCII, letters by lanes, or one letter; or else 0.
 #[inline(always)]
 fn own_some(bytes: &[u8]) -> usize
     requires { 0 < length bytes.now }
     ensures { 0 < result → AreOwn bytes.now result }
 {
     if bytes[0].is_ascii() {
-        ascii_front(bytes)
-    } else {
-        own_letter(bytes)
+        return ascii_front(bytes);
     }
+    let count = letters_front(bytes);
+    if count > 0 { count } else { own_letter(bytes) }
 }
 
 /// How many bytes stay as they are at the start of these.
