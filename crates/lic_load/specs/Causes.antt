@@ -3,7 +3,7 @@ use Rattle.std.specs.Prelude.{ℕ, List}
 use Rattle.std.specs.Str.{IsUtf8, IsValidUpTo}
 use Rattle.lic_kind.specs.LineRules.{LineRules}
 use Rattle.lic_phrases.specs.Rewriting.{Phrase}
-use Rattle.lic_markup.specs.Faults.{IsLasting}
+use Rattle.lic_elements.specs.Faults.{IsLasting}
 use Rattle.lic_markup.specs.FirstFaults.{IsFaultOf}
 use Rattle.lic_stream.specs.declared.transfer.ReadFault.{ReadFault}
 use Rattle.lic_stream.specs.declared.transfer.ReadFault.TheVariants.{Read, Memory}

@@ -7,7 +7,7 @@ ghost use Rattle.std.specs.Str.{IsUtf8};
 ghost use Rattle.std.specs.String.{string_bytes};
 ghost use Rattle.std.specs.declared.io.ErrorKind.TheVariants.{OutOfMemory};
 ghost use Rattle.lic_kind.specs.LineRules.{rules_of};
-ghost use Rattle.lic_markup.specs.Faults.{fault_at};
+ghost use Rattle.lic_elements.specs.Faults.{fault_at};
 ghost use Rattle.lic_markup.specs.Parts.{template_of};
 ghost use Rattle.lic_markup.specs.Templates.{IsTemplate};
 ghost use Rattle.lic_load.specs.declared.templates.TemplateFault.TheVariants.{Unreadable, Memory};

@@ -12,10 +12,10 @@ use Rattle.lic_ere.specs.Brackets.{member_at, members_at, bracket_at}
 use Rattle.lic_ere.specs.Lexemes.{lexeme_at, lexemes}
 use Rattle.lic_ere.specs.Reading as ere
 use Rattle.lic_ere.specs.declared.fault.EreCause.TheVariants.{BracketExtension}
-use Rattle.lic_markup.specs.declared.fault.MarkupCause.TheVariants.{EndWithoutBegin, NotEnded, FieldMissing, FieldTwice, NoEquals, Pattern}
-use Rattle.lic_markup.specs.Faults.{fault_at}
-use Rattle.lic_markup.specs.Rules.{tag_at, name_at, quoted_at, plain_at, value_at, field_at, fields_at, rule_at}
-use Rattle.lic_markup.specs.Elements.{elements}
+use Rattle.lic_elements.specs.declared.fault.MarkupCause.TheVariants.{EndWithoutBegin, NotEnded, FieldMissing, FieldTwice, NoEquals, Pattern}
+use Rattle.lic_elements.specs.Faults.{fault_at}
+use Rattle.lic_elements.specs.Rules.{tag_at, name_at, quoted_at, plain_at, value_at, field_at, fields_at, rule_at}
+use Rattle.lic_elements.specs.Elements.{elements}
 use Rattle.lic_markup.specs.Parts.{letters, variable}
 use Rattle.lic_markup.specs.Reading.{meet, read_on, reading}
 

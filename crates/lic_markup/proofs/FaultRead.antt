@@ -8,11 +8,11 @@ use Rattle.lic_ere.specs.Trees.{Tree}
 use Rattle.lic_ere.proofs.Complete.{IsPattern-read}
 use Rattle.lic_kind.specs.LineRules.{LineRules}
 use Rattle.lic_phrases.specs.Rewriting.{Phrase}
-use Rattle.lic_markup.specs.declared.fault.MarkupFault.{MarkupFault}
-use Rattle.lic_markup.specs.declared.fault.MarkupCause.TheVariants.{EndWithoutBegin, NotEnded, NoLetter, TooHeavy, TooLong, TooDeep}
-use Rattle.lic_markup.specs.Faults.{fault_at, Gives, IsLasting}
-use Rattle.lic_markup.specs.Rules as rules
-use Rattle.lic_markup.specs.Elements.{Element, text, rule, refused, elements}
+use Rattle.lic_elements.specs.declared.fault.MarkupFault.{MarkupFault}
+use Rattle.lic_elements.specs.declared.fault.MarkupCause.TheVariants.{EndWithoutBegin, NotEnded, NoLetter, TooHeavy, TooLong, TooDeep}
+use Rattle.lic_elements.specs.Faults.{fault_at, Gives, IsLasting}
+use Rattle.lic_elements.specs.Rules as rules
+use Rattle.lic_elements.specs.Elements.{Element, text, rule, refused, elements}
 use Rattle.lic_markup.specs.Lines.{with_next, next_of}
 use Rattle.lic_markup.specs.Parts.{Reading, TemplateValue, sequence, sequence_weight, template_of}
 use Rattle.lic_markup.specs.Reading as reading
@@ -20,9 +20,9 @@ use Rattle.lic_markup.specs.Reading.{Level, State, meet, meet_text, meet_variabl
 use Rattle.lic_markup.specs.Templates.{original_of}
 use Rattle.lic_markup.specs.FirstFaults as faults
 use Rattle.lic_markup.specs.FirstFaults.{AreSound, IsAtFault, of_rule, bad_pattern, too_deep, no_begin, Lead, nowhere, on, over, into, out, IsFirstFault, at_rule, not_ended, no_token, too_heavy, IsFaultOf, too_long, otherwise}
-use Rattle.lic_markup.proofs.FaultLemmas.{Gives-same}
-use Rattle.lic_markup.proofs.ElementLemmas.{Fails-lasting}
-use Rattle.lic_markup.proofs.CutSpelled.{cut_elements}
+use Rattle.lic_elements.proofs.FaultLemmas.{Gives-same}
+use Rattle.lic_elements.proofs.ElementLemmas.{Fails-lasting}
+use Rattle.lic_elements.proofs.CutSpelled.{cut_elements}
 use Rattle.lic_markup.proofs.TemplateSpelled.{items_read, after_variable, after_begin, after_finish, then}
 use Rattle.lic_markup.proofs.FaultSpelled.{reading-IsFaultOf, with_letters-offset}
 

@@ -10,11 +10,11 @@ use Rattle.lic_ere.specs.Reading as ere
 use Rattle.lic_ere.proofs.Sound.{reading-IsPattern}
 use Rattle.lic_kind.specs.LineRules.{LineRules}
 use Rattle.lic_phrases.specs.Rewriting.{Phrase}
-use Rattle.lic_markup.specs.declared.fault.MarkupFault.{MarkupFault}
-use Rattle.lic_markup.specs.declared.fault.MarkupCause.TheVariants.{NotEnded, NoLetter, TooHeavy, TooLong, TooDeep, EndWithoutBegin}
-use Rattle.lic_markup.specs.Faults.{fault_at}
-use Rattle.lic_markup.specs.Rules as rules
-use Rattle.lic_markup.specs.Elements.{Element, text, rule, refused, elements}
+use Rattle.lic_elements.specs.declared.fault.MarkupFault.{MarkupFault}
+use Rattle.lic_elements.specs.declared.fault.MarkupCause.TheVariants.{NotEnded, NoLetter, TooHeavy, TooLong, TooDeep, EndWithoutBegin}
+use Rattle.lic_elements.specs.Faults.{fault_at}
+use Rattle.lic_elements.specs.Rules as rules
+use Rattle.lic_elements.specs.Elements.{Element, text, rule, refused, elements}
 use Rattle.lic_markup.specs.Lines.{with_next, next_of}
 use Rattle.lic_markup.specs.Parts.{Node, Reading, sequence, sequence_weight, sequence_has_token}
 use Rattle.lic_markup.specs.Reading as reading
@@ -23,7 +23,7 @@ use Rattle.lic_markup.specs.Templates as templates
 use Rattle.lic_markup.specs.Templates.{Item, letters, opens_line, is_piece, is_variable, is_begin, is_finish, AreItems, no_item, one_item}
 use Rattle.lic_markup.specs.FirstFaults as faults
 use Rattle.lic_markup.specs.FirstFaults.{AreSound, IsAtFault, of_rule, bad_pattern, too_deep, no_begin, Lead, nowhere, on, over, into, out, IsFirstFault, at_rule, not_ended, no_token, too_heavy, IsFaultOf, too_long, otherwise}
-use Rattle.lic_markup.proofs.CutSpelled.{elements_are_cut}
+use Rattle.lic_elements.proofs.CutSpelled.{elements_are_cut}
 use Rattle.lic_markup.proofs.LineSpelled.{opens-text, opens-variable, opens-begin, opens-finish}
 use Rattle.lic_markup.proofs.PartSpelled.{run, run_spelled}
 use Rattle.lic_markup.proofs.TemplateSpelled.{parts_in, letters_of, run_text, run_variable, run_begin, run_finish, run_nothing, after_variable, after_begin, after_finish, then}

@@ -1,11 +1,4 @@
 pub mod Examples
-pub mod LocatedLemmas
-pub mod SignLemmas
-pub mod TextLemmas
-pub mod RuleLemmas
-pub mod FaultLemmas
-pub mod FieldLemmas
-pub mod ElementLemmas
 pub mod LineLemmas
 pub mod MeaningLemmas
 pub mod SpelledLemmas
@@ -15,12 +8,6 @@ pub mod PartTextLemmas
 pub mod OffsetLemmas
 pub mod PlainLemmas
 pub mod ReadingLemmas
-pub mod Spelled
-pub mod TagSpelled
-pub mod RuleSpelled
-pub mod RuleFaultSpelled
-pub mod RuleFaultRead
-pub mod CutSpelled
 pub mod LineSpelled
 pub mod PartSpelled
 pub mod TemplateSpelled

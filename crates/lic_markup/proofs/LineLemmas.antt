@@ -2,9 +2,9 @@
 use Rattle.std.proofs.Common.{◌≡◌, eqb, Bool, true, false, ◌&&◌, ◌||◌, List, [], ◌∷◌, ◌++◌, map, refl, sym, ap, ◌∙◌}
 use Rattle.lic_pieces.specs.declared.pieces.Next.{Next}
 use Rattle.lic_ere.specs.Located.{Located}
-use Rattle.lic_markup.specs.Signs.{new_line}
+use Rattle.lic_elements.specs.Signs.{new_line}
 use Rattle.lic_markup.specs.Lines.{at_line_start, ends_line, is_space}
-use Rattle.lic_markup.specs.Elements.{Element}
+use Rattle.lic_elements.specs.Elements.{Element}
 
 -- the elements alone
 abbrev pub passed : List (Element × Next) → List Element

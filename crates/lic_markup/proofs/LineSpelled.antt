@@ -3,9 +3,9 @@ use Rattle.std.proofs.Common.{◌≡◌, ℕ, Bool, true, false, cond, ◌==◌,
 use Rattle.std.proofs.lemmas.List.{reverse-append}
 use Rattle.lic_ere.specs.Located.{Located}
 use Rattle.lic_pieces.specs.declared.pieces.Next.TheVariants as next
-use Rattle.lic_markup.specs.Signs.{new_line}
-use Rattle.lic_markup.specs.Rules as rules
-use Rattle.lic_markup.specs.Elements.{Element, text, rule, refused}
+use Rattle.lic_elements.specs.Signs.{new_line}
+use Rattle.lic_elements.specs.Rules as rules
+use Rattle.lic_elements.specs.Elements.{Element, text, rule, refused}
 use Rattle.lic_markup.specs.Lines.{is_space, at_line_start, line_ends, line_ends_in, counts_as, next_of, ends_line, next_after}
 use Rattle.lic_markup.specs.Templates.{Sign, character, signs_in, signs_of, is_clear, opens_line, first_rule, follows}
 

@@ -15,8 +15,8 @@ use Rattle.lic_markup.specs.Parts.{Node, letters, variable, optional, sequence}
 use Rattle.lic_markup.specs.PartTexts.{HasPieceTexts, HavePieceTexts}
 use Rattle.lic_markup.specs.Reading.{Level, State, with_letters, meet_variable, meet_end}
 use Rattle.lic_markup.specs.ReadTexts.{HoldPieceTexts, HasReadTexts}
-use Rattle.lic_markup.specs.Faults.{Gives}
-use Rattle.lic_markup.specs.declared.fault.MarkupFault.{MarkupFault}
+use Rattle.lic_elements.specs.Faults.{Gives}
+use Rattle.lic_elements.specs.declared.fault.MarkupFault.{MarkupFault}
 use Rattle.lic_markup.proofs.BlankLemmas.{piece_text}
 
 -- the letters of a piece whose tokens have texts in UTF-8

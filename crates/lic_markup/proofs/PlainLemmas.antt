@@ -8,18 +8,18 @@ use Rattle.lic_phrases.specs.Rewriting.{Phrase}
 use Rattle.lic_kind.specs.LineRules.{LineRules}
 use Rattle.lic_pieces.specs.Pieces.{piece_of}
 use Rattle.lic_pieces.specs.declared.pieces.Next.TheVariants.{LineEnd}
-use Rattle.lic_markup.specs.declared.fault.MarkupFault.{MarkupFault}
-use Rattle.lic_markup.specs.declared.fault.MarkupCause.TheVariants.{TooLong, NoLetter, TooHeavy}
-use Rattle.lic_markup.specs.Signs.{less}
-use Rattle.lic_markup.specs.Texts.{text_of}
-use Rattle.lic_markup.specs.Faults.{fault_at}
-use Rattle.lic_markup.specs.Elements.{text, elements}
+use Rattle.lic_elements.specs.declared.fault.MarkupFault.{MarkupFault}
+use Rattle.lic_elements.specs.declared.fault.MarkupCause.TheVariants.{TooLong, NoLetter, TooHeavy}
+use Rattle.lic_elements.specs.Signs.{less}
+use Rattle.lic_elements.specs.Texts.{text_of}
+use Rattle.lic_elements.specs.Faults.{fault_at}
+use Rattle.lic_elements.specs.Elements.{text, elements}
 use Rattle.lic_markup.specs.Lines.{ends_line}
 use Rattle.lic_markup.specs.Parts.{Node, Reading, letters, sequence, sequence_has_token, sequence_weight}
 use Rattle.lic_markup.specs.Reading.{max_length, max_weight, meet, new_level, read_elements, read_on, reading, whole, with_letters}
-use Rattle.lic_markup.proofs.LocatedLemmas.{text_of-piece}
-use Rattle.lic_markup.proofs.SignLemmas.{sign-located}
-use Rattle.lic_markup.proofs.ElementLemmas.{plain_sequence, elements-end}
+use Rattle.lic_elements.proofs.LocatedLemmas.{text_of-piece}
+use Rattle.lic_elements.proofs.SignLemmas.{sign-located}
+use Rattle.lic_elements.proofs.ElementLemmas.{plain_sequence, elements-end}
 
 one_piece : (cs : List ℕ) → list_any (λ c. c == less) cs ≡ false → elements [] 0 (located_from 0 cs) ≡ text (located_from 0 cs) ∷ []
 one_piece cs none =

@@ -4,10 +4,10 @@ use Rattle.std.proofs.lemmas.List.{reverse-append}
 use Rattle.lic_kind.specs.LineRules.{LineRules}
 use Rattle.lic_phrases.specs.Rewriting.{Phrase}
 use Rattle.lic_pieces.specs.declared.pieces.Next.{Next}
-use Rattle.lic_markup.specs.declared.fault.MarkupFault.{MarkupFault}
-use Rattle.lic_markup.specs.declared.elements.Element as coded
-use Rattle.lic_markup.specs.Faults.{◌>>=◌}
-use Rattle.lic_markup.specs.Elements.{Element}
+use Rattle.lic_elements.specs.declared.fault.MarkupFault.{MarkupFault}
+use Rattle.lic_elements.specs.declared.elements.Element as coded
+use Rattle.lic_elements.specs.Faults.{◌>>=◌}
+use Rattle.lic_elements.specs.Elements.{Element}
 use Rattle.lic_markup.specs.Parts.{Reading}
 use Rattle.lic_markup.specs.Reading.{State, meet, finish, read_on}
 use Rattle.lic_markup.specs.Views.{placed_of}

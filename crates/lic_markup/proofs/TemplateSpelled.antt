@@ -14,12 +14,12 @@ use Rattle.lic_kind.specs.LineRules.{LineRules}
 use Rattle.lic_phrases.specs.Rewriting.{Phrase}
 use Rattle.lic_pieces.specs.Pieces.{piece_of}
 use Rattle.lic_pieces.specs.declared.pieces.Next.{Next}
-use Rattle.lic_markup.specs.declared.fault.MarkupFault.{MarkupFault}
-use Rattle.lic_markup.specs.declared.fault.MarkupCause.TheVariants.{NotEnded, NoLetter, TooHeavy, TooLong, TooDeep, EndWithoutBegin}
-use Rattle.lic_markup.specs.Texts.{text_of}
-use Rattle.lic_markup.specs.Faults.{fault_at, Gives, ◌>>=◌}
-use Rattle.lic_markup.specs.Rules as rules
-use Rattle.lic_markup.specs.Elements.{Element, text, rule, refused, elements}
+use Rattle.lic_elements.specs.declared.fault.MarkupFault.{MarkupFault}
+use Rattle.lic_elements.specs.declared.fault.MarkupCause.TheVariants.{NotEnded, NoLetter, TooHeavy, TooLong, TooDeep, EndWithoutBegin}
+use Rattle.lic_elements.specs.Texts.{text_of}
+use Rattle.lic_elements.specs.Faults.{fault_at, Gives, ◌>>=◌}
+use Rattle.lic_elements.specs.Rules as rules
+use Rattle.lic_elements.specs.Elements.{Element, text, rule, refused, elements}
 use Rattle.lic_markup.specs.Lines.{with_next, next_of, next_after}
 use Rattle.lic_markup.specs.Parts as parts
 use Rattle.lic_markup.specs.Parts.{Node, Reading, TemplateValue, sequence, sequence_weight, sequence_has_token, template_of}
@@ -27,8 +27,8 @@ use Rattle.lic_markup.specs.Reading as reading
 use Rattle.lic_markup.specs.Reading.{Level, State, new_level, with_part, meet, meet_text, meet_variable, meet_begin, meet_end, finish, read_on, read_elements, start, whole, reported, max_depth, max_length, max_weight}
 use Rattle.lic_markup.specs.Templates as templates
 use Rattle.lic_markup.specs.Templates.{Item, letters, variable, begin, original_of, opens_line, follows, IsItem, is_piece, is_variable, is_begin, is_finish, AreItems, no_item, one_item, AreParts, IsTemplate}
-use Rattle.lic_markup.proofs.FaultLemmas.{Gives-same}
-use Rattle.lic_markup.proofs.CutSpelled.{NotRefused, elements_spelled, elements_cut}
+use Rattle.lic_elements.proofs.FaultLemmas.{Gives-same}
+use Rattle.lic_elements.proofs.CutSpelled.{NotRefused, elements_spelled, elements_cut}
 use Rattle.lic_markup.proofs.LineSpelled.{follows-is, opens-text, opens-variable, opens-begin, opens-finish}
 use Rattle.lic_markup.proofs.PartSpelled.{run, run_spelled, spelled_run}
 use Rattle.lic_markup.proofs.PartSpelled as items

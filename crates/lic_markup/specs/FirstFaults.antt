@@ -8,24 +8,15 @@ use Rattle.lic_ere.specs.Trees.{Tree}
 use Rattle.lic_ere.specs.declared.fault.EreFault.{EreFault}
 use Rattle.lic_kind.specs.LineRules.{LineRules}
 use Rattle.lic_phrases.specs.Rewriting.{Phrase}
-use Rattle.lic_markup.specs.declared.fault.MarkupFault.{MarkupFault}
-use Rattle.lic_markup.specs.declared.fault.MarkupCause.TheVariants.{EndWithoutBegin, NotEnded, TooDeep, TooHeavy, NoLetter, TooLong}
-use Rattle.lic_markup.specs.Faults.{fault_at}
-use Rattle.lic_markup.specs.Rules as rules
-use Rattle.lic_markup.specs.Elements.{Element, text, rule, refused}
-use Rattle.lic_markup.specs.Markup.{IsRule}
+use Rattle.lic_elements.specs.declared.fault.MarkupFault.{MarkupFault}
+use Rattle.lic_elements.specs.declared.fault.MarkupCause.TheVariants.{EndWithoutBegin, NotEnded, TooDeep, TooHeavy, NoLetter, TooLong}
+use Rattle.lic_elements.specs.Faults.{fault_at}
+use Rattle.lic_elements.specs.Rules as rules
+use Rattle.lic_elements.specs.Elements.{Element, text, rule, refused}
+use Rattle.lic_elements.specs.CutFaults.{AreCut}
 use Rattle.lic_markup.specs.Parts.{Node, sequence, sequence_weight, sequence_has_token}
 use Rattle.lic_markup.specs.Reading.{max_depth, max_length, max_weight, reported}
-use Rattle.lic_markup.specs.RuleFaults.{IsRuleFault}
-use Rattle.lic_markup.specs.Templates.{Item, HasNoRule, AreItems, AreParts}
-
--- Pieces of text and rules in turn, as far as rules can be read: to the end, or to the first one that is at fault by itself.
-pub data AreCut : List Located → List Element → Type 0 where
-  last : {piece : List Located} → HasNoRule piece [] → AreCut piece (text piece ∷ [])
-  further : {cs piece following rest : List Located} {r : rules.Rule} {es : List Element} → cs ≡ piece ++ following
-      → HasNoRule piece following → IsRule following rest r → AreCut rest es → AreCut cs (text piece ∷ rule r ∷ es)
-  unreadable : {cs piece following : List Located} {e : MarkupFault} → cs ≡ piece ++ following → HasNoRule piece following
-      → IsRuleFault following e → AreCut cs (text piece ∷ refused e ∷ [])
+use Rattle.lic_markup.specs.Templates.{Item, AreItems, AreParts}
 
 -- None of these elements is at fault, and they lead from so many open optional parts to so many.
 pub data AreSound : ℕ → List Element → ℕ → Type 0 where

@@ -5,9 +5,9 @@ use Rattle.lic_kind.specs.Kinds.{is_dropped}
 use Rattle.lic_pieces.specs.declared.pieces.Next.{Next}
 use Rattle.lic_pieces.specs.declared.pieces.Next.TheVariants as next
 use Rattle.lic_ere.specs.Located.{Located}
-use Rattle.lic_markup.specs.Signs.{new_line}
-use Rattle.lic_markup.specs.Rules.{variable, begin, finish}
-use Rattle.lic_markup.specs.Elements.{Element, text, rule, refused}
+use Rattle.lic_elements.specs.Signs.{new_line}
+use Rattle.lic_elements.specs.Rules.{variable, begin, finish}
+use Rattle.lic_elements.specs.Elements.{Element, text, rule, refused}
 
 -- white space, or a dropped character, which counts as such here
 abbrev pub is_space : ℕ → Bool

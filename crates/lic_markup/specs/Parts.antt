@@ -6,7 +6,7 @@ use Rattle.lic_ere.specs.Trees.{Tree, tree_of}
 use Rattle.lic_markup.specs.declared.part.Part.{Part}
 use Rattle.lic_markup.specs.declared.part.Part.TheOpen.{Part-F}
 use Rattle.lic_markup.specs.declared.part.Part.TheFolds.{fold-Part}
-use Rattle.lic_markup.specs.Signs.{blank}
+use Rattle.lic_elements.specs.Signs.{blank}
 use Rattle.lic_markup.specs.Weights.{weight}
 
 mutual

@@ -10,12 +10,12 @@ use Rattle.lic_kind.specs.LineRules.{LineRules}
 use Rattle.lic_phrases.specs.Rewriting.{Phrase}
 use Rattle.lic_pieces.specs.Pieces.{piece_of}
 use Rattle.lic_pieces.specs.declared.pieces.Next.{Next}
-use Rattle.lic_markup.specs.declared.fault.MarkupFault.{MarkupFault}
-use Rattle.lic_markup.specs.declared.fault.MarkupCause.TheVariants.{EndWithoutBegin, NotEnded, Pattern, TooDeep, TooHeavy, NoLetter, TooLong}
-use Rattle.lic_markup.specs.Texts.{text_of}
-use Rattle.lic_markup.specs.Faults.{fault_at, out_of_memory, ◌>>=◌}
-use Rattle.lic_markup.specs.Rules as rules
-use Rattle.lic_markup.specs.Elements.{Element, text, rule, refused, elements}
+use Rattle.lic_elements.specs.declared.fault.MarkupFault.{MarkupFault}
+use Rattle.lic_elements.specs.declared.fault.MarkupCause.TheVariants.{EndWithoutBegin, NotEnded, Pattern, TooDeep, TooHeavy, NoLetter, TooLong}
+use Rattle.lic_elements.specs.Texts.{text_of}
+use Rattle.lic_elements.specs.Faults.{fault_at, out_of_memory, ◌>>=◌}
+use Rattle.lic_elements.specs.Rules as rules
+use Rattle.lic_elements.specs.Elements.{Element, text, rule, refused, elements}
 use Rattle.lic_markup.specs.Lines.{at_line_start, next_after, with_next}
 use Rattle.lic_markup.specs.Parts.{Node, letters, variable, optional, sequence, sequence_weight, sequence_has_token, Reading}
 

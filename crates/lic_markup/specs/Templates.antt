@@ -1,5 +1,5 @@
--- Templates, apart from how they are read: pieces of text and rules in turn, what is round a piece in its lines, optional
--- parts in one another, and what all of it says.
+-- Templates, apart from how they are read: what is round a piece of text in its lines, optional parts in one another, and what
+-- all of it says.
 use Rattle.std.specs.Prelude.{◌≡◌, ℕ, suc, ◌<◌, ◌≤◌, Bool, true, false, ◌||◌, ◌&&◌, ◌==◌, IsTrue, List, [], ◌∷◌, ◌++◌, length, map, reverse, if◌then◌else◌}
 use Rattle.lic_ere.specs.Grammar.{IsPattern}
 use Rattle.lic_ere.specs.Located.{Located, located}
@@ -9,29 +9,17 @@ use Rattle.lic_phrases.specs.Rewriting.{Phrase}
 use Rattle.lic_pieces.specs.Pieces.{piece_of}
 use Rattle.lic_pieces.specs.declared.pieces.Next.{Next}
 use Rattle.lic_pieces.specs.declared.pieces.Next.TheVariants as next
-use Rattle.lic_markup.specs.Signs.{new_line}
-use Rattle.lic_markup.specs.Texts.{text_of}
-use Rattle.lic_markup.specs.Rules as rules
-use Rattle.lic_markup.specs.Elements.{Element, text, rule, refused}
+use Rattle.lic_elements.specs.Signs.{new_line}
+use Rattle.lic_elements.specs.Texts.{text_of}
+use Rattle.lic_elements.specs.Rules as rules
+use Rattle.lic_elements.specs.Elements.{Element, text, rule, refused}
+use Rattle.lic_elements.specs.Cut.{AreElements}
 use Rattle.lic_markup.specs.Lines.{is_space, ends_line}
 use Rattle.lic_markup.specs.Parts as parts
 use Rattle.lic_markup.specs.Parts.{Node, Reading, sequence, sequence_weight, sequence_has_token}
 use Rattle.lic_markup.specs.Reading.{max_depth, max_length, max_weight}
-use Rattle.lic_markup.specs.Markup.{BeginsRule, IsRule}
 
--- ---- pieces and rules
-
--- at none of these characters a rule begins, where this comes after them
-abbrev pub HasNoRule : List Located → List Located → Type 0
-HasNoRule piece following = (before : List Located) (x : Located) (after : List Located) → piece ≡ before ++ x ∷ after
-    → BeginsRule (x ∷ (after ++ following)) → ⊥
-
--- pieces of text and rules in turn: a piece goes up to the first offset at which a rule begins, or to the end
-pub data AreElements : List Located → List Element → Type 0 where
-  last : {piece : List Located} → HasNoRule piece [] → AreElements piece (text piece ∷ [])
-  further : {cs piece following rest : List Located} {r : rules.Rule} {es : List Element} → cs ≡ piece ++ following
-      → HasNoRule piece following
-      → IsRule following rest r → AreElements rest es → AreElements cs (text piece ∷ rule r ∷ es)
+-- ---- the original text
 
 -- the template's text with the optional rules taken out and each variable replaced by its original value
 abbrev pub original_of : List Element → List ℕ

@@ -18,17 +18,20 @@ ghost use Rattle.lic_words.specs.Expressions.{Language};
 ghost use Rattle.lic_words.specs.Words.{Cat, blank};
 ghost use Rattle.lic_markup.specs.declared.part.Part.{Part};
 ghost use Rattle.lic_markup.specs.declared.part.Part.TheVariants.{Text, Optional};
-ghost use Rattle.lic_markup.specs.Signs.{less};
-ghost use Rattle.lic_markup.specs.declared.fault.MarkupFault.{MarkupFault};
-ghost use Rattle.lic_markup.specs.Elements.{Element};
+ghost use Rattle.lic_elements.specs.Signs.{less};
+ghost use Rattle.lic_elements.specs.declared.fault.MarkupFault.{MarkupFault};
+ghost use Rattle.lic_elements.specs.Elements.{Element};
 ghost use Rattle.lic_markup.specs.FirstFaults.{IsFaultOf};
 ghost use Rattle.lic_markup.specs.Parts.{Reading, letters, part_of};
 ghost use Rattle.lic_markup.specs.Reading.{reading};
-ghost use Rattle.lic_markup.specs.Texts.{are_spaces, begins_in_space, ends_in_space, trim_end, trim_start};
-ghost use Rattle.lic_markup.specs.Templates.{AreElements, IsTemplate, original_of};
+ghost use Rattle.lic_elements.specs.Cut.{AreElements};
+ghost use Rattle.lic_markup.specs.Templates.{IsTemplate, original_of};
 ghost use Rattle.lic_markup.specs.Meaning.{parts_words, part_words, piece_texts};
 
 pub use crate::part::{templates_give_a_token, templates_weigh_little, texts_are_those_of_pieces};
+pub use lic_elements::laws::{
+    white_space_is_taken_off_the_end, white_space_is_taken_off_the_start,
+};
 
 /// A word of parts in a row is a word of the first of them and then one of the others.
 pub fn parts_in_a_row_denote_both()
@@ -120,16 +123,4 @@ pub fn the_original_text_is_the_text_without_its_rules()
         → reading rules words template ≡ Ok read
         → (elements : List Element) × AreElements (located template) elements
         × (read.original ≡ original_of elements) }
-{}
-
-/// What is taken off the front of a text is white space, and all of it.
-pub fn white_space_is_taken_off_the_start()
-    ensures { (text : List Located) → (space : List Located) × (text ≡ space ++ trim_start text)
-        × (are_spaces space ≡ true) × (begins_in_space (trim_start text) ≡ false) }
-{}
-
-/// What is taken off the end of a text is white space, and all of it.
-pub fn white_space_is_taken_off_the_end()
-    ensures { (text : List Located) → (space : List Located) × (text ≡ trim_end text ++ space)
-        × (are_spaces space ≡ true) × (ends_in_space (trim_end text) ≡ false) }
 {}

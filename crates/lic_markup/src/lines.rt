@@ -1,12 +1,11 @@
 //! How the pieces of a template lie in its lines.
 ghost use Rattle.std.specs.Prelude.{◌≡◌, IfOk, map, reverse};
 ghost use Rattle.lic_markup.specs.Lines as lines;
-ghost use Rattle.lic_markup.specs.Pieces.{characters};
-ghost use Rattle.lic_markup.specs.Views.{element_of, placed_of};
+ghost use Rattle.lic_elements.specs.Pieces.{characters};
+ghost use Rattle.lic_elements.specs.Views.{element_of};
+ghost use Rattle.lic_markup.specs.Views.{placed_of};
 
-use crate::elements::Element;
-use crate::piece::Piece;
-use crate::rule::Rule;
+use lic_elements::{Element, Piece, Rule};
 use lic_kind::is_dropped;
 use lic_pieces::Next;
 use std::alloc::{AllocError, Global};

@@ -1,18 +1,17 @@
 //! Reading a template.
 ghost use Rattle.std.specs.Prelude.{◌≡◌, ◌<◌, ◌≤◌, IfErr, IfOk, Ok, Err, length, map, reverse};
 ghost use Rattle.lic_kind.specs.LineRules.{rules_of};
-ghost use Rattle.lic_markup.specs.Faults.{Gives, IsLasting, fault_at};
+ghost use Rattle.lic_elements.specs.Faults.{Gives, IsLasting, fault_at};
 ghost use Rattle.lic_markup.specs.FirstFaults.{IsFaultOf};
 ghost use Rattle.lic_markup.specs.Parts.{GiveToken, Reading, template_of, weight_of};
 ghost use Rattle.lic_markup.specs.Reading.{start, read_on, reading};
 ghost use Rattle.lic_markup.specs.Templates.{IsTemplate};
 ghost use Rattle.lic_markup.specs.Views.{placed_of};
 
-use crate::elements::{Element, pieces_and_rules};
-use crate::fault::{MarkupCause, MarkupFault};
 use crate::lines::with_next;
 use crate::part::Template;
 use crate::reader::Reader;
+use lic_elements::{Element, MarkupCause, MarkupFault, pieces_and_rules};
 use lic_kind::Rules;
 use lic_norm::Words;
 use lic_pieces::Next;

@@ -1,5 +1,5 @@
 use Rattle.std.proofs.Common.{◌≡◌, Result, Ok, Err, sym, ap, ◌∙◌}
-use Rattle.lic_markup.specs.declared.fault.MarkupFault.{MarkupFault}
+use Rattle.lic_elements.specs.declared.fault.MarkupFault.{MarkupFault}
 use Rattle.lic_markup.specs.Parts.{Reading}
 use Rattle.lic_markup.proofs.TemplateSpelled.{IsTemplate-read}
 use Rattle.lic_markup.proofs.laws.a_template_says_one_thing.Goals as goal

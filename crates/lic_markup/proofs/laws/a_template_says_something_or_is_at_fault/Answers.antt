@@ -1,12 +1,12 @@
 use Rattle.std.proofs.Common.{◌≡◌, ◌⊎◌, inl, inr, ℕ, List, Result, Ok, Err, refl, sym, ◌∙◌}
 use Rattle.lic_kind.specs.LineRules.{LineRules}
 use Rattle.lic_phrases.specs.Rewriting.{Phrase}
-use Rattle.lic_markup.specs.declared.fault.MarkupFault.{MarkupFault}
+use Rattle.lic_elements.specs.declared.fault.MarkupFault.{MarkupFault}
 use Rattle.lic_markup.specs.FirstFaults.{IsFaultOf}
 use Rattle.lic_markup.specs.Parts.{Reading}
 use Rattle.lic_markup.specs.Reading.{reading}
 use Rattle.lic_markup.specs.Templates.{IsTemplate}
-use Rattle.lic_markup.proofs.RuleFaultSpelled.{same_fault, not_failed}
+use Rattle.lic_elements.proofs.RuleFaultSpelled.{same_fault, not_failed}
 use Rattle.lic_markup.proofs.TemplateSpelled.{reading-IsTemplate, IsTemplate-read}
 use Rattle.lic_markup.proofs.FaultSpelled.{reading-IsFaultOf}
 use Rattle.lic_markup.proofs.FaultRead.{IsFaultOf-read}

@@ -1,6 +1,6 @@
 use Rattle.std.proofs.Common.{eq-eqb, ne_eqb, sym, ◌∙◌}
-use Rattle.lic_markup.specs.Pieces.{characters}
-use Rattle.lic_markup.specs.Signs.{new_line}
+use Rattle.lic_elements.specs.Pieces.{characters}
+use Rattle.lic_elements.specs.Signs.{new_line}
 use Rattle.lic_markup.proofs.LineLemmas.{line_starts, line_has_text, line_continues}
 use Rattle.lic_markup.proofs.lines.at_line_start.Goals as goal
 

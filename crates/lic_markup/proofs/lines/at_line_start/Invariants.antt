@@ -1,6 +1,6 @@
 use Rattle.std.proofs.Common.{◌≡◌, length}
 use Rattle.lic_markup.specs.Lines.{at_line_start}
-use Rattle.lic_markup.specs.Pieces.{characters}
+use Rattle.lic_elements.specs.Pieces.{characters}
 use Rattle.lic_markup.proofs.lines.at_line_start.Given as goal
 
 -- only white space comes after the prefix, and no line ends there

@@ -1,6 +1,6 @@
 use Rattle.std.proofs.Common.{sym, ap, ◌∙◌}
 use Rattle.lic_markup.specs.Lines.{ends_line}
-use Rattle.lic_markup.specs.Pieces.{characters}
+use Rattle.lic_elements.specs.Pieces.{characters}
 use Rattle.lic_markup.proofs.LineLemmas.{ends_line-last}
 use Rattle.lic_markup.proofs.lines.ends_line.Goals as goal
 

@@ -1,6 +1,6 @@
 use Rattle.std.proofs.Common.{◌≡◌, length}
 use Rattle.lic_markup.specs.Lines.{line_ends}
-use Rattle.lic_markup.specs.Pieces.{characters}
+use Rattle.lic_elements.specs.Pieces.{characters}
 use Rattle.lic_markup.proofs.lines.line_ends.Given as goal
 
 abbrev pub invariant-loop-first : goal.invariant-loop-first

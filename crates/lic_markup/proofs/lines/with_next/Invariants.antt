@@ -1,6 +1,7 @@
 use Rattle.std.proofs.Common.{◌≡◌, ◌++◌, map, reverse, vec_len}
 use Rattle.lic_markup.specs.Lines.{line_ends_in, next_of, with_next}
-use Rattle.lic_markup.specs.Views.{element_of, placed_of}
+use Rattle.lic_elements.specs.Views.{element_of}
+use Rattle.lic_markup.specs.Views.{placed_of}
 use Rattle.lic_markup.proofs.LineLemmas.{passed}
 use Rattle.lic_markup.proofs.lines.with_next.Given as goal
 

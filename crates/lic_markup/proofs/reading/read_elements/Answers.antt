@@ -3,7 +3,7 @@ use Rattle.std.proofs.lemmas.Grind.{common_steps}
 use Rattle.lic_kind.specs.LineRules.{rules_of}
 use Rattle.lic_markup.specs.Parts.{template_of}
 use Rattle.lic_markup.specs.Views.{state_of}
-use Rattle.lic_markup.proofs.FaultLemmas.{Gives-err, Gives-same}
+use Rattle.lic_elements.proofs.FaultLemmas.{Gives-err, Gives-same}
 use Rattle.lic_markup.proofs.ReadingLemmas.{read_taken, read_refused, read_ends}
 use Rattle.lic_markup.proofs.reading.read_elements.Goals as goal
 

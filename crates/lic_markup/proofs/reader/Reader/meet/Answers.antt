@@ -1,10 +1,11 @@
 use Rattle.std.proofs.Common.{sym, subst}
 use Rattle.lic_kind.specs.LineRules.{rules_of}
-use Rattle.lic_markup.specs.declared.elements.Element.{Element}
-use Rattle.lic_markup.specs.Faults.{Fails}
+use Rattle.lic_elements.specs.declared.elements.Element.{Element}
+use Rattle.lic_elements.specs.Faults.{Fails}
 use Rattle.lic_markup.specs.Reading.{State, meet}
-use Rattle.lic_markup.specs.Views.{element_of, state_of}
-use Rattle.lic_markup.proofs.FaultLemmas.{Fails-reported}
+use Rattle.lic_elements.specs.Views.{element_of}
+use Rattle.lic_markup.specs.Views.{state_of}
+use Rattle.lic_elements.proofs.FaultLemmas.{Fails-reported}
 use Rattle.lic_markup.proofs.PartTextLemmas.{meet_variable-texts, meet_end-texts}
 use Rattle.lic_markup.proofs.reader.Reader.meet.Goals as goal
 

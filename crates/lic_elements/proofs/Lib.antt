@@ -1,0 +1,13 @@
+pub mod LocatedLemmas
+pub mod SignLemmas
+pub mod TextLemmas
+pub mod RuleLemmas
+pub mod FaultLemmas
+pub mod FieldLemmas
+pub mod ElementLemmas
+pub mod Spelled
+pub mod TagSpelled
+pub mod RuleSpelled
+pub mod RuleFaultSpelled
+pub mod RuleFaultRead
+pub mod CutSpelled

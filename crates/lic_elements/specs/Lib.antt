@@ -1,0 +1,11 @@
+pub mod Signs
+pub mod Texts
+pub mod Pieces
+pub mod Faults
+pub mod Rules
+pub mod Elements
+pub mod Markup
+pub mod RuleFaults
+pub mod Cut
+pub mod CutFaults
+pub mod Views

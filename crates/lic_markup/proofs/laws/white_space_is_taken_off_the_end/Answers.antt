@@ -1,5 +1,0 @@
-use Rattle.lic_markup.proofs.TextLemmas.{end_trimmed}
-use Rattle.lic_markup.proofs.laws.white_space_is_taken_off_the_end.Goals as goal
-
-pub returns : goal.returns
-returns c = end_trimmed
