@@ -38,8 +38,8 @@ pub struct LineBuffers {
     part: PartBuffers,
     /// Lines that are read by columns.
     lines: Lines,
-    /// Tokens of them that are spelled together.
-    batch: Batch,
+    /// Tokens of them that are spelled together: a batch once there was one.
+    batches: Vec<Batch>,
 }
 
 impl LineBuffers {
@@ -50,7 +50,7 @@ impl LineBuffers {
             letters: String::new(alloc),
             part: PartBuffers::new(alloc),
             lines: Lines::new(alloc),
-            batch: Batch::new(),
+            batches: Vec::new(alloc),
         }
     }
 }
@@ -59,6 +59,14 @@ impl fmt::Debug for LineBuffers {
     fn fmt<W: fmt::Write>(&self, f: &mut fmt::Formatter<W>) -> fmt::Result {
         f.write_str("LineBuffers")
     }
+}
+
+/// The batch that is kept, which is made where there is none yet.
+fn batch_of(batches: &mut Vec<Batch>) -> Result<&mut Batch, AllocError> {
+    if batches.is_empty() {
+        batches.push(Batch::new())?;
+    }
+    Ok(&mut batches[0])
 }
 
 /// Lets go of the characters of a long line.
@@ -139,7 +147,7 @@ pub fn take_ascii(
     let lines = &mut buffers.lines;
     lines.read(alloc, rules, at, text)?;
     let stretch = Stretch::of(at, lines);
-    rewriting.take_stretch(alloc, &stretch, &mut buffers.batch)?;
+    rewriting.take_stretch(alloc, &stretch, batch_of(&mut buffers.batches)?)?;
     let count = stretch.len();
     if text.len() > MAX_KEPT {
         *lines = Lines::new(alloc);
@@ -172,6 +180,6 @@ pub(crate) fn take_front(
         return Ok(0);
     }
     let stretch = Stretch::of(at, lines);
-    rewriting.take_stretch(alloc, &stretch, &mut buffers.batch)?;
+    rewriting.take_stretch(alloc, &stretch, batch_of(&mut buffers.batches)?)?;
     Ok(end)
 }
