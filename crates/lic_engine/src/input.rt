@@ -21,8 +21,12 @@ const MAX_READ: usize = 67_108_865;
 const CHUNK: usize = 16_384;
 
 /// Feeds an input as it is read, to its end, but no more than one byte more than an input may have. A failed call is not
-/// tried again.
-fn feed_all<R: Source>(input: &mut R, feeder: &mut Feeder<'_>) -> Result<(), RunFault>
+/// tried again. What the chunk holds has no effect.
+fn feed_all<R: Source>(
+    input: &mut R,
+    chunk: &mut Vec<u8>,
+    feeder: &mut Feeder<'_>,
+) -> Result<(), RunFault>
     requires empty { feeder.old.bytes ≡ [] }
     requires open { feeder.old.refused ≡ None }
     ensures whole { OnOk result
@@ -38,7 +42,9 @@ fn feed_all<R: Source>(input: &mut R, feeder: &mut Feeder<'_>) -> Result<(), Run
     ensures faults { IsOfReading result }
     ensures most { ReadsUpTo (R.left input.old) (R.left input.new) 67108865 }
 {
-    let mut chunk = [0u8; CHUNK];
+    if chunk.resize(CHUNK, 0).is_err() {
+        return Err(RunFault::Text(TextFault::Memory));
+    }
     let mut count = 0;
     while count < MAX_READ {
         let room = (MAX_READ - count).min(CHUNK);
@@ -77,7 +83,7 @@ pub fn read_text<R: Source>(
     ensures most { ReadsUpTo (R.left input.old) (R.left input.new) 67108865 }
 {
     let mut feeder = memory.feeder(words, rules);
-    feed_all(input, &mut feeder)?;
+    feed_all(input, &mut memory.chunk, &mut feeder)?;
     match feeder.finish() {
         Ok(text) => Ok(text),
         Err(fault) => Err(RunFault::Text(fault)),

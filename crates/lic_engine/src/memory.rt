@@ -12,12 +12,18 @@ use std::alloc::Global;
 pub struct Memory {
     alloc: Global,
     text: Option<Text>,
+    /// What one call reads.
+    pub(crate) chunk: Vec<u8>,
 }
 
 impl Memory {
     /// Nothing is kept yet.
     pub fn new(alloc: Global) -> Memory {
-        Memory { alloc, text: None }
+        Memory {
+            alloc,
+            text: None,
+            chunk: Vec::new(alloc),
+        }
     }
 
     /// Where other memory comes from.
