@@ -45,6 +45,7 @@ fn feed_all<R: Source>(
     if chunk.resize(CHUNK, 0).is_err() {
         return Err(RunFault::Text(TextFault::Memory));
     }
+    let chunk = chunk.as_mut_slice();
     let mut count = 0;
     while count < MAX_READ {
         let room = (MAX_READ - count).min(CHUNK);

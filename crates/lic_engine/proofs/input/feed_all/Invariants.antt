@@ -6,7 +6,7 @@ use Rattle.lic_engine.proofs.input.feed_all.Given as goal
 -- what was read so far was fed, and is accepted
 abbrev pub invariant-loop-count : goal.invariant-loop-count
 invariant-loop-count g l = record {
-  long : length l.chunk.items ≡ 16384;
+  long : length l.chunk ≡ 16384;
   count : l.count ≡ length l.feeder.bytes;
   read : Consumes (g.R.Source.left l.initial.input) (g.R.Source.left l.input) l.feeder.bytes;
   sound : g.R.Source.failed l.input ≡ g.R.Source.failed l.initial.input;
