@@ -5,9 +5,8 @@ import fcntl
 import os
 import shutil
 import sys
-import tempfile
 
-from proving import Hearing, Proving, copy_crates, keeps_proofs, minutes, run_gate, say
+from proving import Proving, keeps_proofs, minutes, say
 
 PROGRAM = "licscan"
 
@@ -29,36 +28,25 @@ def is_current(top):
     return os.access(program, os.X_OK) and os.path.getmtime(program) >= newest_source(f"{top}/crates")
 
 
-def built(top, names, to, hear):
-    """Has the program proved and built, takes it over, and says whether it is there. `hear` is called with each line of what is said."""
-    with tempfile.TemporaryDirectory(prefix="licscan-build-") as room:
-        copy_crates(top, names, room)
-        status, said = run_gate(room, 0, hear)
-        with open(f"{to}/build.log", "ab") as log:
-            log.write(said)
-        program = f"{room}/crates/{PROGRAM}/out/{PROGRAM}"
-        if status or not os.access(program, os.X_OK):
-            return False
-        # renamed, so that no other run meets half of it
+def take_program(folder, to):
+    """Takes the program over from the folder of a run that built it. It is renamed at the end, so that no other run meets half of it."""
+    program = f"{folder}/crates/{PROGRAM}/out/{PROGRAM}"
+    if os.access(program, os.X_OK):
         shutil.copyfile(program, f"{to}/{PROGRAM}.new")
-    os.chmod(f"{to}/{PROGRAM}.new", 0o755)
-    os.replace(f"{to}/{PROGRAM}.new", f"{to}/{PROGRAM}")
-    return True
+        os.chmod(f"{to}/{PROGRAM}.new", 0o755)
+        os.replace(f"{to}/{PROGRAM}.new", f"{to}/{PROGRAM}")
 
 
 def build(top):
     """Proves all, builds the program, and returns the exit status."""
     to = f"{top}/crates/{PROGRAM}/out"
-    open(f"{to}/build.log", "wb").close()
-    proving = Proving(top, [PROGRAM], f"{to}/build.log")
+    proving = Proving(top, [PROGRAM], f"{to}/build.log", when_run=lambda folder: take_program(folder, to))
     say(f"proving {len(proving.all)} crates and building the program: half an hour on four quick cores, an hour on slow ones")
     say("README.md says how to have an unproved answer in two minutes")
-    if keeps_proofs(top):
-        is_built = proving.run() and built(top, proving.all, to, lambda line: None)
-    else:
+    is_apart = keeps_proofs()
+    if not is_apart:
         say("this kit keeps no proofs: if it is stopped, it begins anew")
-        is_built = built(top, proving.all, to, Hearing(len(proving.all)))
-    if not is_built:
+    if not proving.run(is_apart) or not os.access(f"{to}/{PROGRAM}", os.X_OK):
         say(f"the program could not be proved and built (log: crates/{PROGRAM}/out/build.log)")
         return 2
     say(f"proved and built in {minutes(proving.start)}")

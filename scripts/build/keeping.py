@@ -1,11 +1,8 @@
 #!/usr/bin/env python3
 """Ends with status 0 where `rt ci` keeps what it proved for its next run, and else with 1. Usage: keeping.py"""
-import os
 import sys
 
 from proving import keeps_proofs
 
-TOP = os.path.dirname(os.path.dirname(os.path.dirname(os.path.realpath(__file__))))
-
 if __name__ == "__main__":
-    sys.exit(0 if keeps_proofs(TOP) else 1)
+    sys.exit(0 if keeps_proofs() else 1)

@@ -19,9 +19,11 @@ from listed import from_the_ground, read_crates
 # what a proof reads of a crate, and what rt runs a program on
 PARTS = ("src", "specs", "proofs", "stdin", "stdout", "args", "status", "data")
 FUNCTIONS = re.compile(rb"logic=proved functions=(\d+)")
-PROVED = re.compile(rb"rt: (\w+) proved$")
+PROVED = re.compile(rb"rt: (\w+) (?:proved$|is kept: )")
 # `rt ci` keeps what it proved if the same proof once more takes less than this part of its processor time: without that, proving apart is dear
 KEPT = 0.5
+# a crate that is proved in seconds
+ONE = "//! One, at {}.\n#![tactic(auto)]\n\n/// One.\npub fn one() -> u8 {{\n    1\n}}\n"
 # the proof of a crate takes up to this
 MEMORY_OF_A_CRATE = 6_000_000_000
 
@@ -61,45 +63,26 @@ def run_gate(folder, nice, hear=lambda line: None):
     return gate.returncode, b"".join(said)
 
 
-def prove_apart(top, crates, name, nice):
-    """Proves a crate and those below it in a folder of their own, and returns the status and what is said."""
+def seconds_to_prove(source):
+    """The processor seconds that the proof of a crate takes which has this source and no library."""
     with tempfile.TemporaryDirectory(prefix="licscan-proof-") as room:
-        copy_crates(top, from_the_ground(crates, [name]), room)
-        return run_gate(room, nice)
-
-
-def seconds_to_prove(top, name, comment):
-    """The processor seconds that the proof of a crate takes which depends on no other, with this comment at the end of its source."""
-    with tempfile.TemporaryDirectory(prefix="licscan-proof-") as room:
-        copy_crates(top, [name], room)
-        with open(f"{room}/crates/{name}/src/lib.rt", "a", encoding="utf-8") as source:
-            source.write(f"// {comment}\n")
+        os.makedirs(f"{room}/.git")
+        os.makedirs(f"{room}/crates/one/src")
+        for path, text in ("HANDLES", "Handles allowed: none.\n"), ("crates.txt", "one:\n"), ("crates/one/src/lib.rt", source):
+            with open(f"{room}/{path}", "w", encoding="utf-8") as file:
+                file.write(text)
         before = resource.getrusage(resource.RUSAGE_CHILDREN)
         run_gate(room, 0)
         after = resource.getrusage(resource.RUSAGE_CHILDREN)
     return after.ru_utime + after.ru_stime - before.ru_utime - before.ru_stime
 
 
-def keeps_proofs(top):
-    """Whether `rt ci` keeps what it proved for its next run: the smallest crate that depends on no other, with a comment that it never had, is
-    proved twice, and the second time costs much less."""
-    crates = read_crates(top)
-    name = min((name for name in crates if not crates[name]), key=lambda name: lines_of(top, name))
-    first, second = [seconds_to_prove(top, name, comment) for comment in [time.time_ns()] * 2]
+def keeps_proofs():
+    """Whether `rt ci` keeps what it proved for its next run: a crate of one function, with a comment that no crate ever had, is proved twice, and
+    the second time costs much less."""
+    source = ONE.format(time.time_ns())
+    first, second = [seconds_to_prove(source) for _ in range(2)]
     return second < KEPT * first
-
-
-class Hearing:
-    """Says when each of so many crates is proved, from what the gate's command says."""
-
-    def __init__(self, count):
-        self.count, self.proved, self.functions, self.start = count, 0, 0, time.monotonic()
-
-    def __call__(self, line):
-        self.functions += int((FUNCTIONS.findall(line) or [0])[0])
-        if found := PROVED.match(line.rstrip(b"\n")):
-            self.proved += 1
-            say(f"{self.proved} of {self.count} crates proved ({found[1].decode()}; {self.functions} functions so far; {minutes(self.start)})")
 
 
 def lines_of(top, name):
@@ -129,57 +112,98 @@ def workers():
 
 
 class Proving:
-    """Proves the crates of these names and those below them. `when_proved` is called with each crate's name and the seconds that it took.
-    `faults` has, of each crate that failed, its name and what was said of it."""
+    """Proves the crates of these names and those below them. `when_proved` is called with each crate's name and the seconds that it took, and `when_run`
+    with the folder of each run that passed. `faults` has, of each run that failed, the names of its crates and what was said of them."""
 
-    def __init__(self, top, names, log, when_proved=lambda name, seconds: None):
-        self.top, self.log, self.when_proved, self.start = top, log, when_proved, time.monotonic()
+    def __init__(self, top, names, log, when_proved=lambda name, seconds: None, when_run=lambda folder: None):
+        self.top, self.log, self.when_proved, self.when_run, self.start = top, log, when_proved, when_run, time.monotonic()
         self.crates = read_crates(top)
         self.all = from_the_ground(self.crates, names)
         self.chains = chains_above(top, self.crates, names)
         self.left, self.begun, self.proved = set(self.all), set(), set()
         self.functions, self.faults, self.change = 0, [], threading.Condition()
 
+    def ready(self, names):
+        """The crates that are not begun whose libraries are proved or have these names."""
+        return [it for it in self.left.difference(names) if self.proved.union(names).issuperset(self.crates[it])]
+
+    def one_after_another(self, name):
+        """A crate, and above it those that only wait for the one before. A run reads all that is proved below, so one run for these takes less time."""
+        names = [name]
+        while len(above := self.ready(names)) == 1:
+            names += above
+        return names
+
     def take(self):
-        """The next crate whose libraries are proved, and how nice its proof is to the others, or None where none is left."""
+        """The crates to prove in the next run, and how nice it is to the others, or None where none is left."""
         with self.change:
             while self.left and not self.faults:
-                ready = [name for name in self.left if self.proved.issuperset(self.crates[name])]
-                if ready:
+                if ready := self.ready([]):
+                    running = self.begun - self.proved
                     name = max(ready, key=self.chains.get)
-                    is_first = all(self.chains[it] < self.chains[name] for it in self.begun - self.proved)
-                    self.left.remove(name)
-                    self.begun.add(name)
-                    return name, 0 if is_first else 10
+                    is_first = all(self.chains[it] < self.chains[name] for it in running)
+                    names = [name] if running or len(ready) > 1 else self.one_after_another(name)
+                    self.left -= set(names)
+                    self.begun |= set(names)
+                    return names, 0 if is_first else 10
                 self.change.wait()
             return None
 
-    def prove(self, name, nice):
-        start = time.monotonic()
-        status, said = prove_apart(self.top, self.crates, name, nice)
+    def add(self, name, functions, seconds):
+        """Says that a crate is proved, so that those begin that wait for it."""
+        with self.change:
+            if name in self.proved:
+                return
+            self.proved.add(name)
+            self.functions += functions
+            say(f"{len(self.proved)} of {len(self.all)} crates proved ({name}; {self.functions} functions so far; {minutes(self.start)})")
+            self.change.notify_all()
+        self.when_proved(name, seconds)
+
+    def prove_apart(self, names, nice):
+        """Proves crates and those below them in a folder of their own, and returns the status and what is said."""
+        start, functions = time.monotonic(), 0
+
+        def hear(line):
+            nonlocal start, functions
+            if found := FUNCTIONS.search(line):
+                functions = int(found[1])
+            if found := PROVED.match(line):
+                self.add(found[1].decode(), functions, time.monotonic() - start)
+                start, functions = time.monotonic(), 0
+
+        with tempfile.TemporaryDirectory(prefix="licscan-proof-") as room:
+            copy_crates(self.top, from_the_ground(self.crates, names), room)
+            status, said = run_gate(room, nice, hear)
+            if not status:
+                self.when_run(room)
+            return status, said
+
+    def prove(self, names, nice):
+        status, said = self.prove_apart(names, nice)
         if status:
             # once more: the system may have killed it for memory, and the gate's own run judges what passes now
-            status, said = prove_apart(self.top, self.crates, name, nice)
+            status, said = self.prove_apart(names, nice)
         with self.change:
             with open(self.log, "ab") as file:
                 file.write(said)
             if status:
-                self.faults.append((name, said))
-            self.proved.add(name)
-            self.functions += int((FUNCTIONS.findall(said) or [0])[-1])
-            if not self.faults:
-                say(f"{len(self.proved)} of {len(self.all)} crates proved ({name}; {self.functions} functions so far; {minutes(self.start)})")
-            self.change.notify_all()
-        if not status:
-            self.when_proved(name, time.monotonic() - start)
+                self.faults.append((" ".join(names), said))
+                self.change.notify_all()
+        # those that the run did not name
+        for name in [] if status else names:
+            self.add(name, 0, 0)
 
     def work(self):
         while taken := self.take():
             self.prove(*taken)
 
-    def run(self):
-        """Proves all, and says whether all are proved."""
+    def run(self, is_apart=True):
+        """Proves all, in runs of one crate or a few or in one run, and says whether all are proved."""
         open(self.log, "wb").close()
+        if not is_apart:
+            self.left.clear()
+            self.prove(self.all, 0)
         beside = [threading.Thread(target=self.work) for _ in range(workers() - 1)]
         for thread in beside:
             thread.start()
