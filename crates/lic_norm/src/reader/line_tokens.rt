@@ -29,7 +29,6 @@ const WHOLE_LINE: LinePart = LinePart {
 const MAX_KEPT: usize = 65_536;
 
 /// Buffers for the work on lines, kept from one to the next. What they hold has no effect.
-#[derive(Drop)]
 pub struct LineBuffers {
     /// The characters of any other line.
     characters: Vec<SourceChar>,
@@ -52,6 +51,19 @@ impl LineBuffers {
             lines: Lines::new(alloc),
             batches: Vec::new(alloc),
         }
+    }
+}
+
+// Written out, so that a caller's proof has one call and not the drop of each buffer.
+impl Drop for LineBuffers {
+    fn drop(self) {
+        let LineBuffers {
+            characters: _characters,
+            letters: _letters,
+            part: _part,
+            lines: _lines,
+            batches: _batches,
+        } = self;
     }
 }
 
