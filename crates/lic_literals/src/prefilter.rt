@@ -21,13 +21,24 @@ use std::rc::Rc;
 ///
 /// Of each literal one window is looked for, the one that is rarest among all windows of the literals. The work is linear in
 /// the bytes, however many literals there are.
-#[derive(Drop)]
 pub struct Prefilter {
     literals: Vec<Vec<u8>>,
     // the window of each, if it is long enough for one
     keys: Vec<Option<Key>>,
     groups: Groups,
     tables: Tables,
+}
+
+// Written out, so that a caller's proof has one call and not the drop of each table.
+impl Drop for Prefilter {
+    fn drop(self) {
+        let Prefilter {
+            literals: _literals,
+            keys: _keys,
+            groups: _groups,
+            tables: _tables,
+        } = self;
+    }
 }
 
 impl Model for Prefilter {

@@ -36,11 +36,21 @@ pub struct Key {
 }
 
 /// The windows of literals, each of the greatest length that its literal has.
-#[derive(Drop)]
 pub struct Tables {
     long: Table<LONG, LONG_GRAM, LONG_STEP>,
     middle: Table<MIDDLE, SHORT_GRAM, MIDDLE_STEP>,
     short: Table<SHORT, SHORT_GRAM, SHORT_STEP>,
+}
+
+// Written out, so that a caller's proof has one call and not the drop of each table.
+impl Drop for Tables {
+    fn drop(self) {
+        let Tables {
+            long: _long,
+            middle: _middle,
+            short: _short,
+        } = self;
+    }
 }
 
 impl Tables {
