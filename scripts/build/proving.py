@@ -1,8 +1,8 @@
 """Proves crates of this repository by the gate's command, `rt ci`, on copies of them without must-fail edits.
 
 The longest chain of crates that depend on each other decides how long all take. So of the crates whose libraries are proved the one is begun next
-on which the longest chain depends, and two or three are proved side by side: the one with the longest chain on all cores, the others on what it
-leaves. That is for a kit whose `rt ci` keeps what it proved for each later run over the same files, so that it is proved once, whether by the
+on which the longest chain depends, and two or three are proved side by side: the one with the longest chain by several jobs, the others by one each
+where cores lack. That is for a kit whose `rt ci` keeps what it proved for each later run over the same files, so that it is proved once, whether by the
 first command or by the gate. With another kit all crates are proved in one run."""
 import os
 import re
@@ -51,10 +51,10 @@ def copy_crates(top, names, to):
                 shutil.copyfile(path, copy)
 
 
-def run_gate(folder, nice, hear=lambda line: None):
-    """Runs the gate's command there, and returns its status and what it says. `hear` is called with each line of that."""
-    # a fixed number of jobs would be one for each crate
-    environment = {name: value for name, value in os.environ.items() if name != "RT_JOBS"}
+def run_gate(folder, nice=0, jobs=0, hear=lambda line: None):
+    """Runs the gate's command there, and returns its status and what it says. `hear` is called with each line of that. A proof has one job where
+    `jobs` is 1, and else as many as rt gives it."""
+    environment = {name: value for name, value in os.environ.items() if name != "RT_JOBS"} | ({"RT_JOBS": "1"} if jobs == 1 else {})
     command, said = ["nice", "-n", str(nice), "rt", "ci"], []
     with subprocess.Popen(command, cwd=folder, env=environment, stdin=subprocess.DEVNULL, stdout=subprocess.PIPE, stderr=subprocess.STDOUT) as gate:
         for line in gate.stdout:
@@ -72,7 +72,7 @@ def seconds_to_prove(source):
             with open(f"{room}/{path}", "w", encoding="utf-8") as file:
                 file.write(text)
         before = resource.getrusage(resource.RUSAGE_CHILDREN)
-        run_gate(room, 0)
+        run_gate(room)
         after = resource.getrusage(resource.RUSAGE_CHILDREN)
     return after.ru_utime + after.ru_stime - before.ru_utime - before.ru_stime
 
@@ -105,6 +105,11 @@ def chains_above(top, crates, names):
     return lines
 
 
+def jobs_of_a_proof():
+    """How many jobs rt gives a proof that has the machine for itself."""
+    return max(1, min(4, (os.cpu_count() or 1) // 2))
+
+
 def workers():
     """How many crates are proved at a time."""
     memory = os.sysconf("SC_PAGE_SIZE") * os.sysconf("SC_PHYS_PAGES")
@@ -121,7 +126,7 @@ class Proving:
         self.all = from_the_ground(self.crates, names)
         self.chains = chains_above(top, self.crates, names)
         self.left, self.begun, self.proved = set(self.all), set(), set()
-        self.functions, self.faults, self.change = 0, [], threading.Condition()
+        self.functions, self.jobs, self.faults, self.change = 0, 0, [], threading.Condition()
 
     def ready(self, names):
         """The crates that are not begun whose libraries are proved or have these names."""
@@ -135,7 +140,7 @@ class Proving:
         return names
 
     def take(self):
-        """The crates to prove in the next run, and how nice it is to the others, or None where none is left."""
+        """The crates to prove in the next run, how nice it is to the others, and how many jobs it has, or None where none is left."""
         with self.change:
             while self.left and not self.faults:
                 if ready := self.ready([]):
@@ -143,9 +148,12 @@ class Proving:
                     name = max(ready, key=self.chains.get)
                     is_first = all(self.chains[it] < self.chains[name] for it in running)
                     names = [name] if running or len(ready) > 1 else self.one_after_another(name)
+                    # two jobs take a third more processor time than one
+                    jobs = jobs_of_a_proof() if is_first or self.jobs + jobs_of_a_proof() <= (os.cpu_count() or 1) else 1
                     self.left -= set(names)
                     self.begun |= set(names)
-                    return names, 0 if is_first else 10
+                    self.jobs += jobs
+                    return names, 0 if is_first else 10, jobs
                 self.change.wait()
             return None
 
@@ -160,7 +168,7 @@ class Proving:
             self.change.notify_all()
         self.when_proved(name, seconds)
 
-    def prove_apart(self, names, nice):
+    def prove_apart(self, names, nice, jobs):
         """Proves crates and those below them in a folder of their own, and returns the status and what is said."""
         start, functions = time.monotonic(), 0
 
@@ -174,19 +182,20 @@ class Proving:
 
         with tempfile.TemporaryDirectory(prefix="licscan-proof-") as room:
             copy_crates(self.top, from_the_ground(self.crates, names), room)
-            status, said = run_gate(room, nice, hear)
+            status, said = run_gate(room, nice, jobs, hear)
             if not status:
                 self.when_run(room)
             return status, said
 
-    def prove(self, names, nice):
-        status, said = self.prove_apart(names, nice)
+    def prove(self, names, nice=0, jobs=0):
+        status, said = self.prove_apart(names, nice, jobs)
         if status:
             # once more: the system may have killed it for memory, and the gate's own run judges what passes now
-            status, said = self.prove_apart(names, nice)
+            status, said = self.prove_apart(names, nice, jobs)
         with self.change:
             with open(self.log, "ab") as file:
                 file.write(said)
+            self.jobs -= jobs
             if status:
                 self.faults.append((" ".join(names), said))
                 self.change.notify_all()
@@ -203,7 +212,7 @@ class Proving:
         open(self.log, "wb").close()
         if not is_apart:
             self.left.clear()
-            self.prove(self.all, 0)
+            self.prove(self.all)
         beside = [threading.Thread(target=self.work) for _ in range(workers() - 1)]
         for thread in beside:
             thread.start()
