@@ -16,7 +16,7 @@ use Rattle.lic_markup.specs.Parts as nodes
 use Rattle.lic_markup.specs.Parts.{Node, part_node, part_of, sequence}
 use Rattle.lic_pieces.specs.PieceTexts.{IsPieceText}
 use Rattle.lic_markup.specs.PartTexts.{HasPieceTexts, HavePieceTexts}
-use Rattle.lic_keys.specs.Texts.{AreEdges}
+use Rattle.lic_places.specs.Texts.{AreEdges}
 use Rattle.lic_keys.specs.Required.{HasLetters, HasNoLetters, IsLongestText}
 use Rattle.lic_keys.specs.declared.longest.LongestText.{LongestText}
 use Rattle.lic_keys.proofs.SameLetters.{letters-same}

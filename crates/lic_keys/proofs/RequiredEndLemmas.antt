@@ -1,9 +1,9 @@
 -- Where the letters of a required text end within what a word of the template spells.
-use Rattle.std.proofs.Common.{◌≡◌, ◌↔◌, inl, inr, ℕ, suc, ◌+◌, ◌<◌, ◌≤◌, Bool, true, false, List, [], ◌∷◌, ◌++◌, length, map, take, drop, Some, refl, sym, ap, ◌∙◌, subst, arith, append_assoc, length-append, IsTrue}
+use Rattle.std.proofs.Common.{◌≡◌, inl, inr, ℕ, suc, ◌+◌, ◌<◌, ◌≤◌, Bool, true, false, List, [], ◌∷◌, ◌++◌, length, map, take, drop, Some, refl, sym, ap, ◌∙◌, subst, arith, append_assoc}
 use Rattle.std.specs.Prelude.{Contains, slice_get, slice_range}
-use Rattle.std.specs.Str.{IsUtf8, chars}
+use Rattle.std.specs.Str.{chars}
 use Rattle.std.proofs.Math.Seq.{drop-cons}
-use Rattle.std.proofs.lemmas.List.{drop-map, length-map, take-append-drop}
+use Rattle.std.proofs.lemmas.List.{drop-map, take-append-drop}
 use Rattle.std.proofs.lemmas.Option.{get_or_from_slice_get, slice_get_within}
 use Rattle.lic_words.specs.Words.{Word, Cat, blank}
 use Rattle.lic_words.specs.Expressions.{Language}
@@ -14,31 +14,16 @@ use Rattle.lic_markup.specs.Meaning.{parts_words}
 use Rattle.lic_markup.specs.Parts as nodes
 use Rattle.lic_markup.specs.Parts.{Node, part_of}
 use Rattle.lic_norm.specs.Tokens.{TokenValue}
-use Rattle.lic_norm.specs.Places.{place_end, texts_of}
-use Rattle.lic_pieces.specs.PieceTexts.{IsPieceText}
-use Rattle.lic_places.specs.Places.{AreTexts, IsAfterBlank, Occurs, is_blank_at, spelling_of}
+use Rattle.lic_norm.specs.Places.{place_end}
+use Rattle.lic_places.specs.Places.{AreTexts, spelling_of}
 use Rattle.lic_places.specs.Reads.{Reads, Takes}
 use Rattle.lic_places.proofs.Reading.{Reads-cut, Reads-order}
-use Rattle.lic_places.proofs.Spelled.{spelled-front}
-use Rattle.lic_places.proofs.TextReading.{text_read, text_occurs}
+use Rattle.lic_places.proofs.TextReading.{end-within, text-read}
 use Rattle.lic_places.proofs.TieRange.{spelling_is_read}
 use Rattle.lic_places.proofs.TokenPlaces.{OverBlank-order}
 use Rattle.lic_literals.specs.Ends.{EndsAt}
 use Rattle.lic_keys.specs.Required.{HasLetters, HoldEnds}
-use Rattle.lic_keys.proofs.TextWords.{text-words}
-
-pub text-read : (tokens : List TokenValue) (text : List ℕ) (p q : ℕ) → AreTexts tokens → IsUtf8 text → IsPieceText text → 0 < length text →
-    ¬ (IsTrue (is_blank_at text 0)) → ¬ (IsAfterBlank text (length text)) → Reads tokens p (chars text) q ↔ Occurs (spelling_of tokens) p text q
-text-read tokens text p q texts utf8 piece some front end =
-    (text_occurs tokens text p q texts utf8 piece some front end, text_read tokens text p q utf8)
-
--- a token ends within the text
-pub end-within : (tokens : List TokenValue) (i : ℕ) → i < length tokens → place_end tokens i ≤ length (spelling_of tokens)
-unfolding place_end
-end-within tokens i within =
-    let text_of = λ (t : TokenValue). t.text in
-    let front = spelled-front (texts_of tokens) i (omega (arith, length-map tokens text_of)) in
-    omega (arith, ap length front.1, length-append (spelled (take (suc i) (texts_of tokens))) front.0)
+use Rattle.lic_places.proofs.TextWords.{text-words}
 
 -- the words of parts, and then of others
 pub parts-joined : (xs ys : List Node) (w : Word) → Language (parts_words (xs ++ ys)) w → Cat (Language (parts_words xs)) (Language (parts_words ys)) w

@@ -3,7 +3,7 @@ use Rattle.std.proofs.Common.{◌≡◌, ℕ, ◌+◌, ◌<◌, Bool, true, fals
 use Rattle.std.proofs.lemmas.List.{append_cancel_right, get_or_at}
 use Rattle.lic_phrases.specs.Spelling.{blank_if}
 use Rattle.lic_places.specs.Places.{IsAfterBlank, is_blank_at}
-use Rattle.lic_keys.specs.Texts.{AreEdges}
+use Rattle.lic_places.specs.Texts.{AreEdges}
 
 -- what comes after the first blank, where it does not begin with another
 after-same : (f g : Bool) (xs ys : List ℕ) → blank_if f ++ xs ≡ blank_if g ++ ys → ¬ (IsTrue (is_blank_at xs 0)) → ¬ (IsTrue (is_blank_at ys 0)) →

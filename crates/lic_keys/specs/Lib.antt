@@ -1,4 +1,3 @@
-pub mod Texts
 pub mod Required
 pub mod Keys
 pub mod Candidates

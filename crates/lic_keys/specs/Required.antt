@@ -4,7 +4,7 @@ use Rattle.lic_markup.specs.declared.part.Part.{Part}
 use Rattle.lic_markup.specs.Parts as nodes
 use Rattle.lic_markup.specs.Parts.{part_of}
 use Rattle.lic_literals.specs.Ends.{EndsAt}
-use Rattle.lic_keys.specs.Texts.{AreEdges}
+use Rattle.lic_places.specs.Texts.{AreEdges}
 
 -- the part of this number is a text with these letters between the blanks at its edges, of which there is one at least
 pub record HasLetters (parts : List Part) (number : ℕ) (letters : List ℕ) : Type 0 where

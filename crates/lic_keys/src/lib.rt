@@ -2,11 +2,9 @@
 #![tactic(auto)]
 
 mod candidate;
-mod edges;
 mod keys;
 pub mod laws;
 mod longest;
 
 pub use candidate::{Candidate, RequiredEnds};
-pub use edges::{Edges, edges_of};
 pub use keys::Keys;

@@ -5,8 +5,8 @@ ghost use Rattle.lic_markup.specs.Parts.{part_of, sequence};
 ghost use Rattle.lic_markup.specs.PartTexts.{HavePieceTexts};
 ghost use Rattle.lic_keys.specs.Required.{HasNoLetters, IsLongestText};
 
-use crate::edges::edges_of;
 use lic_markup::Part;
+use lic_places::edges_of;
 
 /// The letters of a text of a template, without the blanks at its edges, and the number of the text among the parts.
 #[derive(Clone, Copy, Debug)]

@@ -9,4 +9,6 @@ pub mod TieLetters
 pub mod TieEnds
 pub mod TieTokens
 pub mod TieRange
+pub mod EdgeLemmas
+pub mod TextWords
 mod examples

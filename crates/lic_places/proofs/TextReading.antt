@@ -1,10 +1,10 @@
 -- The letters of a text with no blank at its edges are read exactly where its bytes occur.
-use Rattle.std.proofs.Common.{◌≡◌, ℕ, suc, ◌+◌, ◌<◌, true, false, inl, inr, List, [], ◌∷◌, ◌++◌, length, get_or, take, drop, reverse, refl, sym, ap, ◌∙◌, subst, arith, append-nil, length-append, eqb-true, add-one, lit<, All, IsTrue}
+use Rattle.std.proofs.Common.{◌≡◌, ◌↔◌, ℕ, suc, ◌+◌, ◌<◌, ◌≤◌, true, false, inl, inr, List, [], ◌∷◌, ◌++◌, length, map, get_or, take, drop, reverse, refl, sym, ap, ◌∙◌, subst, arith, append-nil, length-append, eqb-true, add-one, lit<, All, IsTrue}
 use Rattle.std.specs.Char.{IsScalar}
 use Rattle.std.specs.Str.{chars, IsUtf8}
 use Rattle.std.proofs.Math.Utf8.{encode, encodes, scalar, scalars}
 use Rattle.std.proofs.lemmas.Bool.{eq-eqb, cases_Bool, cases_eq, cases_lt, and_parts, and_from, true≢false}
-use Rattle.std.proofs.lemmas.List.{reverse-append, length-reverse, take_all, take_at, drop_at, drop_all, get_or_at}
+use Rattle.std.proofs.lemmas.List.{reverse-append, length-map, length-reverse, take_all, take_at, drop_at, drop_all, get_or_at}
 use Rattle.std.proofs.lemmas.List.Elements.{All-take, All-drop, All-get_or}
 use Rattle.std.proofs.lemmas.Str.{IsUtf8-encode, IsUtf8-append, IsUtf8-take, IsCharBoundary-at_seam, chars-append, chars-encodes, chars_past_char, char_from_byte, encode_ascii, encodes-append, encodes-chars, length-encode, len_utf8_bounds, length-le-encodes, scalars-chars}
 use Rattle.lic_kind.specs.Kinds.{kind_of}
@@ -13,7 +13,7 @@ use Rattle.lic_words.specs.Words.{blank}
 use Rattle.lic_words.specs.Letters.{is_word}
 use Rattle.lic_norm.specs.Tokens.{TokenValue}
 use Rattle.lic_pieces.specs.PieceTexts.{IsPieceText}
-use Rattle.lic_norm.specs.Places.{texts_of, IsTokenEnd}
+use Rattle.lic_norm.specs.Places.{texts_of, place_end, IsTokenEnd}
 use Rattle.lic_places.specs.Places.{AreTexts, IsAfterBlank, OverBlank, Occurs, is_blank_at, spelling_of, HasGap}
 use Rattle.lic_places.specs.Places.OverBlank.{over, stays}
 use Rattle.lic_places.specs.Reads.{Takes, Reads}
@@ -323,3 +323,17 @@ pub text_read : (tokens : List TokenValue) (text : List ℕ) (p q : ℕ) → IsU
 text_read tokens text p q utf8 occurs =
     letters_read tokens p q (chars text) (scalars-chars text utf8)
     (subst (λ l. Occurs (spelling_of tokens) p l q) (sym (encodes-chars text utf8)) occurs)
+
+-- so the letters of such a text are read exactly where its bytes are
+pub text-read : (tokens : List TokenValue) (text : List ℕ) (p q : ℕ) → AreTexts tokens → IsUtf8 text → IsPieceText text → 0 < length text →
+    ¬ (IsTrue (is_blank_at text 0)) → ¬ (IsAfterBlank text (length text)) → Reads tokens p (chars text) q ↔ Occurs (spelling_of tokens) p text q
+text-read tokens text p q texts utf8 piece some front end =
+    (text_occurs tokens text p q texts utf8 piece some front end, text_read tokens text p q utf8)
+
+-- a token ends within the text
+pub end-within : (tokens : List TokenValue) (i : ℕ) → i < length tokens → place_end tokens i ≤ length (spelling_of tokens)
+unfolding place_end
+end-within tokens i within =
+    let text_of = λ (t : TokenValue). t.text in
+    let front = spelled-front (texts_of tokens) i (omega (arith, length-map tokens text_of)) in
+    omega (arith, ap length front.1, length-append (spelled (take (suc i) (texts_of tokens))) front.0)

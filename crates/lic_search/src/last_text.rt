@@ -8,9 +8,10 @@ ghost use Rattle.lic_places.specs.Places.{spelling_of};
 ghost use Rattle.lic_search.specs.Windows.{AreRequiredEnds};
 
 use crate::reach::most_bytes;
-use lic_keys::{RequiredEnds, edges_of};
+use lic_keys::RequiredEnds;
 use lic_literals::ends_within;
 use lic_markup::Part;
+use lic_places::edges_of;
 use lic_view::View;
 use std::alloc::{AllocError, Global};
 

@@ -9,8 +9,8 @@ use Rattle.lic_places.specs.Places.{AreTexts, Occurs, spelling_of}
 use Rattle.lic_places.specs.Reads.{Reads}
 use Rattle.lic_literals.specs.Ends.{EndsAt}
 use Rattle.lic_view.specs.Backward.{IsBackFrom}
-use Rattle.lic_keys.specs.Texts.{AreLetters}
-pub use Rattle.lic_keys.proofs.TextWords.{IsWordOf}
+use Rattle.lic_places.specs.Texts.{AreLetters}
+pub use Rattle.lic_places.proofs.TextWords.{IsWordOf}
 use Rattle.lic_view.proofs.PlaceLaws.{text-read}
 use Rattle.lic_view.proofs.Back.{back-nothing}
 use Rattle.lic_view.proofs.SingleLemmas.{back-single, single}

@@ -5,7 +5,7 @@ use Rattle.lic_norm.specs.Places.{place_end}
 use Rattle.lic_places.specs.Places.{AreTexts, IsAfterBlank, OverBlank, is_blank_at, spelling_of}
 use Rattle.lic_places.proofs.TokenPlaces.{OverBlank-one, OverBlank-twice, blank-alone, token-ends}
 use Rattle.lic_view.proofs.ViewPlaces.{ends-rise}
-pub use Rattle.lic_keys.proofs.RequiredEndLemmas.{text-read}
+pub use Rattle.lic_places.proofs.TextReading.{text-read}
 
 -- tokens end one after another
 pub place_end-rises : (tokens : List TokenValue) (i j : ℕ) → AreTexts tokens → i < j → j < length tokens → place_end tokens i < place_end tokens j

@@ -10,9 +10,9 @@ use Rattle.lic_places.specs.Places.{AreTexts}
 use Rattle.lic_spans.specs.declared.span.PlaceSpan.{PlaceSpan}
 use Rattle.lic_view.specs.PlaceSets.{ArePlaced, Reaches}
 use Rattle.lic_view.specs.Backward.{IsBack, Keeps}
-use Rattle.lic_keys.specs.Texts.{AreEdges, IsBlankIf}
+use Rattle.lic_places.specs.Texts.{AreEdges, IsBlankIf}
 use Rattle.lic_view.proofs.Back.{back-after, back-keeps, back-same, back-stay}
-use Rattle.lic_keys.proofs.TextWords.{IsWordOf, text-words}
+use Rattle.lic_places.proofs.TextWords.{IsWordOf, text-words}
 use Rattle.lic_view.specs.declared.sets.keep.Keep.{Keep}
 
 -- going back over all parts of a text

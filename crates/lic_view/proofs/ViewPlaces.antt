@@ -6,7 +6,7 @@ use Rattle.lic_norm.specs.Tokens.{TokenValue}
 use Rattle.lic_norm.specs.Places.{IsTokenEnd, place_end, place_start}
 use Rattle.lic_places.specs.Places.{AreTexts, is_blank_at, spelling_of}
 use Rattle.lic_view.specs.Views.{IsFirstFrom}
-pub use Rattle.lic_keys.proofs.RequiredEndLemmas.{end-within}
+pub use Rattle.lic_places.proofs.TextReading.{end-within}
 use Rattle.lic_view.proofs.Laws.{no_blank-start, tokens_stand-next, tokens_stand-order}
 
 -- a token begins no earlier than the one before it ends

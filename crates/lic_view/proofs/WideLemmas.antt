@@ -16,7 +16,7 @@ use Rattle.lic_spans.specs.declared.span.PlaceSpan.{PlaceSpan}
 use Rattle.lic_view.specs.PlaceSets.{ArePlaced, IsPlaceOf, Reaches}
 use Rattle.lic_view.specs.Backward.{AddsBack, IsBackFrom}
 use Rattle.lic_view.specs.Wide.{HoldThoseOf, This}
-use Rattle.lic_keys.specs.Texts.{AreLetters}
+use Rattle.lic_places.specs.Texts.{AreLetters}
 use Rattle.lic_view.proofs.PlaceLaws.{text-read}
 use Rattle.lic_view.proofs.Back.{Holds-last, Reaches-in_front, back-both, back-nothing, back-same}
 use Rattle.lic_view.proofs.ViewPlaces.{end-within}

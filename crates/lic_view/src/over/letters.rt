@@ -10,7 +10,7 @@ ghost use Rattle.lic_spans.specs.declared.span.PlaceSpan.{PlaceSpan};
 ghost use Rattle.lic_view.specs.Backward.{AddsBack, IsBack};
 ghost use Rattle.lic_view.specs.PlaceSets.{ArePlaced};
 ghost use Rattle.lic_view.specs.Wide.{HoldThoseOf};
-ghost use Rattle.lic_keys.specs.Texts.{AreLetters};
+ghost use Rattle.lic_places.specs.Texts.{AreLetters};
 
 use crate::sets::keep::Keep;
 use crate::sets::places::has_place;

@@ -6,7 +6,7 @@ ghost use Rattle.lic_words.specs.Expressions.{Language, letters};
 ghost use Rattle.lic_pieces.specs.PieceTexts.{IsPieceText};
 ghost use Rattle.lic_view.specs.Backward.{IsBack};
 ghost use Rattle.lic_view.specs.PlaceSets.{ArePlaced};
-ghost use Rattle.lic_keys.specs.Texts.{AreLettersIfAny, IsBlankIf};
+ghost use Rattle.lic_places.specs.Texts.{AreLettersIfAny, IsBlankIf};
 
 use crate::over::blanks::over_blanks;
 use crate::over::letters::over_letters;
@@ -14,7 +14,7 @@ use crate::sets::keep::Keep;
 use crate::sets::kept::kept;
 use crate::sets::stop::Stop;
 use crate::view::{View, tokens_have_texts};
-use lic_keys::edges_of;
+use lic_places::edges_of;
 use lic_spans::PlaceSpan;
 use std::alloc::Global;
 

@@ -1,6 +1,6 @@
 use Rattle.std.proofs.Common.{true, sym, subst}
 use Rattle.lic_view.specs.Backward.{IsBack}
-use Rattle.lic_keys.specs.Texts.{IsBlankIf}
+use Rattle.lic_places.specs.Texts.{IsBlankIf}
 use Rattle.lic_view.proofs.over.texts.over_blank_if.Goals as goal
 
 pub returns-in_ok-over_blanks : goal.returns-in_ok-over_blanks

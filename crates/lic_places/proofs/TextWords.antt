@@ -8,7 +8,7 @@ use Rattle.lic_words.specs.Expressions as words
 use Rattle.lic_words.proofs.Languages.{letters_sound, letters_complete}
 use Rattle.lic_phrases.specs.Spelling.{blank_if}
 use Rattle.lic_places.proofs.Spelled.{blank_if-utf8, chars-blank}
-use Rattle.lic_keys.specs.Texts.{AreEdges, IsBlankIf}
+use Rattle.lic_places.specs.Texts.{AreEdges, IsBlankIf}
 
 -- the word is that of the letters
 abbrev pub IsWordOf : List ℕ → Word → Type 0

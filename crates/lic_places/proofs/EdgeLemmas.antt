@@ -10,7 +10,7 @@ use Rattle.lic_phrases.specs.Spelling.{begins_in_word, blank_if, ends_in_word, f
 use Rattle.lic_pieces.specs.PieceTexts.{IsPieceText}
 use Rattle.lic_places.specs.Places.{IsAfterBlank, is_blank_at}
 use Rattle.lic_places.proofs.Spelled.{begins_no_word, blank_if-utf8, chars-blank}
-use Rattle.lic_keys.specs.Texts.{AreEdges}
+use Rattle.lic_places.specs.Texts.{AreEdges}
 
 -- ---- UTF-8
 

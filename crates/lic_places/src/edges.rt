@@ -4,7 +4,7 @@ ghost use Rattle.std.specs.Prelude.{◌≡◌, ◌<◌, ◌++◌, false, length,
 ghost use Rattle.lic_phrases.specs.Spelling.{blank_if};
 ghost use Rattle.lic_pieces.specs.PieceTexts.{IsPieceText};
 ghost use Rattle.lic_places.specs.Places.{IsAfterBlank, is_blank_at};
-ghost use Rattle.lic_keys.specs.Texts.{AreEdges};
+ghost use Rattle.lic_places.specs.Texts.{AreEdges};
 
 /// Whether there are blanks at the edges of a text, and the letters between them.
 #[derive(Clone, Copy, Debug)]
