@@ -1,5 +1,5 @@
 -- The front of a line: two digits written over those of a number that differs in them alone.
-use Rattle.std.proofs.Common.{◌≡◌, ℕ, false, zero, suc, ◌+◌, ◌-◌, ◌*◌, ◌/◌, ◌%◌, ◌^◌, ◌<◌, ◌≤◌, Bool, true, ◌&&◌, T, eqb, List, [], ◌∷◌, ◌++◌, length, take, drop, set, get_or, refl, sym, ap, ap₂, ◌∙◌, inl, inr, arith, eq-zero-or-pos, eqb→eq, append_assoc, length-append, length-set, true≢false}
+use Rattle.std.proofs.Common.{◌≡◌, ℕ, zero, suc, ◌+◌, ◌-◌, ◌*◌, ◌/◌, ◌%◌, ◌^◌, ◌<◌, ◌≤◌, Bool, true, ◌&&◌, T, eqb, List, [], ◌∷◌, ◌++◌, length, take, drop, set, get_or, refl, sym, ap, ap₂, ◌∙◌, inl, inr, arith, eq-zero-or-pos, eqb→eq, append_assoc, length-append, length-set}
 use Rattle.std.proofs.Math.Seq.{take-append_seam, drop-append_seam}
 use Rattle.std.proofs.lemmas.List.{take-append-drop, take-set-le, take-set, drop-set, set_comm, length-take-le, take-take, take_at}
 use Rattle.std.specs.Prelude.{decimal}
@@ -150,7 +150,7 @@ module _ (old bytes : List ℕ) (same len one two : ℕ) (within : same ≤ leng
       sym (take-take same len bytes (omega (arith, written_long))) ∙ (ap (take same) written
       ∙ take_at (take same old) (field (decimal one) 0x09 ++ field (decimal two) 0x09) same (length-take-le same old within))
 
-  pub kept_of : (first_end : ℕ) → one < 2 ^ 64 → two < 2 ^ 64 → 100 ≤ one → 100 ≤ two → first_end ≡ same + length (decimal one)
+  pub kept_of : (first_end : ℕ) → one < 2 ^ 63 → two < 2 ^ 63 → 100 ≤ one → 100 ≤ two → first_end ≡ same + length (decimal one)
       → len ≤ same + 42 → same + 138 ≤ length bytes → IsKept bytes same first_end len (one - one % 100) (two - two % 100)
   kept_of first_end one_fits two_fits one_large two_large end_is end_fits room =
       record {
@@ -168,12 +168,18 @@ module _ (old bytes : List ℕ) (same len one two : ℕ) (within : same ≤ leng
         room = room;
       }
 
+-- a number that is kept is one of 64 bits
+pub fits : (n : ℕ) → n < 2 ^ 63 → n < 2 ^ 64
+fits n lt = omega (arith, lt)
+
 -- where the two numbers that are kept end
 pub kept_ends : (bytes : List ℕ) (same first_end len first second : ℕ) → (kept : IsKept bytes same first_end len first second)
     → (2 ≤ first_end) × (len ≡ first_end + 1 + (length (decimal kept.two) + 1)) × (2 ≤ length (decimal kept.two))
 kept_ends bytes same first_end len first second kept =
-    let fits : len ≤ length bytes = omega (arith, kept.end_fits, kept.room) in
-    let long = written_long bytes bytes same len kept.one kept.two (omega (arith, kept.room)) fits kept.bytes_are in
-    let one = two_digits [] [] kept.one kept.one kept.one_fits kept.one_fits kept.one_large refl in
-    let two = two_digits [] [] kept.two kept.two kept.two_fits kept.two_fits kept.two_large refl in
+    let within : len ≤ length bytes = omega (arith, kept.end_fits, kept.room) in
+    let long = written_long bytes bytes same len kept.one kept.two (omega (arith, kept.room)) within kept.bytes_are in
+    let one_fits = fits kept.one kept.one_fits in
+    let two_fits = fits kept.two kept.two_fits in
+    let one = two_digits [] [] kept.one kept.one one_fits one_fits kept.one_large refl in
+    let two = two_digits [] [] kept.two kept.two two_fits two_fits kept.two_large refl in
     (omega (arith, kept.end_is, one), omega (arith, kept.end_is, long), two)

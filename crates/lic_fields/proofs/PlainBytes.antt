@@ -1,9 +1,9 @@
 -- Bytes that a field has as they are.
-use Rattle.std.proofs.Common.{◌≡◌, ℕ, zero, ◌+◌, ◌≤◌, Bool, true, false, ◌||◌, List, [], ◌∷◌, ◌++◌, length, take, refl, sym, append_assoc, ap, ◌∙◌, true≢false, arith}
+use Rattle.std.proofs.Common.{◌≡◌, ℕ, zero, ◌+◌, ◌≤◌, Bool, true, false, ◌||◌, List, [], ◌∷◌, ◌++◌, length, take, refl, sym, ap, ◌∙◌, true≢false, arith}
 use Rattle.std.proofs.lemmas.List.Elements.{All-tail, All-take}
 use Rattle.std.proofs.Math.Seq.{take-append-add}
 use Rattle.std.proofs.lemmas.List.{take-take}
-use Rattle.lic_fields.specs.Fields.{ArePlain, escaped_byte, escaped, field}
+use Rattle.lic_fields.specs.Fields.{ArePlain, escaped_byte, escaped}
 
 pub first-false : (a b : Bool) → (a || b) ≡ false → a ≡ false
 first-false false b none = refl

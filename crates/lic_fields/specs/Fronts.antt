@@ -7,8 +7,8 @@ use Rattle.lic_fields.specs.Fields.{field}
 pub record IsKept (bytes : List ℕ) (same first_end len first second : ℕ) : Type 0 where
   pub one : ℕ
   pub two : ℕ
-  pub one_fits : one < 2 ^ 64
-  pub two_fits : two < 2 ^ 64
+  pub one_fits : one < 2 ^ 63
+  pub two_fits : two < 2 ^ 63
   pub one_large : 100 ≤ one
   pub two_large : 100 ≤ two
   pub one_is : first ≡ one - one % 100

@@ -1,6 +1,6 @@
 //! Lines that begin with the same bytes and two numbers, and end with a text.
 
-ghost use Rattle.std.specs.Prelude.{◌≡◌, ◌<◌, ◌≤◌, ◌+◌, ◌*◌, ◌/◌, ◌%◌, ◌-◌, ◌∷◌, ◌++◌, [], true, IfOk, OnOk, decimal, drop, length, take};
+ghost use Rattle.std.specs.Prelude.{◌≡◌, ◌<◌, ◌≤◌, ◌+◌, ◌*◌, ◌^◌, ◌/◌, ◌%◌, ◌-◌, ◌∷◌, ◌++◌, [], true, IfOk, OnOk, decimal, drop, length, take};
 ghost use Rattle.lic_fields.specs.Fields.{escaped, field};
 
 use crate::{TWO_NUMBERS, add_text, add_two_numbers, has_escaped, write_number};
@@ -20,12 +20,23 @@ const BLOCK: usize = 96;
 static PAIRS: [u8; 200] =
     *b"00010203040506070809101112131415161718192021222324252627282930313233343536373839404142434445464748495051525354555657585960616263646566676869707172737475767778798081828384858687888990919293949596979899";
 
-/// Whether a number is one of the hundred from `from` on.
+/// Numbers below this one are kept.
+const GREATEST: u64 = 1 << 63;
+
+/// Whether a number is kept: it has three digits or more, and the hundred after it are numbers too.
+fn is_kept(n: u64) -> bool
+    ensures { result ≡ true → (100 ≤ n) × (n < 2 ^ 63) }
+{
+    100 <= n && n < GREATEST
+}
+
+/// Whether a number is one of the hundred from `from` on: the difference is very great where it is less than `from`.
 #[inline(always)]
 fn is_near(n: u64, from: u64) -> bool
+    requires { from < 2 ^ 63 }
     ensures { result ≡ true → (from ≤ n) × (n < from + 100) }
 {
-    from <= n && n - from < 100
+    n.wrapping_sub(from) < 100
 }
 
 /// Writes the two digits of a number below 100 so that they end at `end`.
@@ -225,7 +236,7 @@ impl LineFront {
             ≡ lines.old.items ++ (self.old ++ (field (decimal first) 0x09 ++ field (decimal second) 0x09))) }
         ensures room { IfOk result (λ end. end + 17 ≤ length lines.new.items) }
     {
-        if first < 100 || second < 100 {
+        if !is_kept(first) || !is_kept(second) {
             return add_whole(lines, &self.bytes[..self.same], first, second);
         }
         let (first_end, len) = write_numbers(&mut self.bytes, self.same, first, second);

@@ -1,4 +1,4 @@
-use Rattle.std.proofs.Common.{◌≡◌, ◌+◌, ◌≤◌, length, take, arith}
+use Rattle.std.proofs.Common.{arith}
 use Rattle.lic_fields.proofs.LineParts.{block_front, block_room}
 use Rattle.lic_fields.proofs.line_front.add_block.Goals as goal
 

@@ -1,4 +1,3 @@
-use Rattle.std.proofs.Common.{arith}
 use Rattle.lic_fields.proofs.LineFronts.{pair_at, two_set}
 use Rattle.lic_fields.proofs.line_front.write_pair.Goals as goal
 

@@ -1,4 +1,4 @@
-use Rattle.std.proofs.Common.{◌≡◌, ◌+◌, ◌-◌, ◌%◌, ◌≤◌, List, ℕ, length, take, ap, sym, subst, ◌∙◌, arith}
+use Rattle.std.proofs.Common.{◌≡◌, ◌-◌, ◌%◌, length, take, ap, sym, subst, ◌∙◌, arith}
 use Rattle.std.proofs.lemmas.List.{with_items_is}
 use Rattle.lic_fields.specs.Fronts.{IsKept}
 use Rattle.lic_fields.proofs.LineFronts.{kept_of, same_stays}
@@ -6,6 +6,8 @@ use Rattle.lic_fields.proofs.line_front.LineFront.add_anew.Goals as goal
 
 pub invariant_of-self : goal.invariant_of-self
 invariant_of-self c =
+    let one = c.is_kept.ensures c.if-not-is_kept.false in
+    let two = c.is_kept-else-not-is_kept.ensures c.if-not-is_kept-2.false in
     let kept = c.self.inside in
     let len = c.write_numbers-first_end.result.1 in
     let old = c.deref_mut.result.now in
@@ -16,12 +18,13 @@ invariant_of-self c =
     let long : length bytes ≡ length old = c.write_numbers-first_end.ensures.len in
     subst (λ b. IsKept b kept.same c.write_numbers-first_end.result.0 len (c.args.first - c.args.first % 100) (c.args.second - c.args.second % 100)) (sym held)
     (kept_of old bytes kept.same len c.args.first c.args.second (omega (arith, start, room)) (omega (arith, start, room, long, c.write_numbers-first_end.ensures.end))
-    c.write_numbers-first_end.ensures.written c.write_numbers-first_end.result.0 (omega arith) (omega arith)
-    (omega (arith, c.if-first-lt100.false)) (omega (arith, c.if-second-lt100.false))
+    c.write_numbers-first_end.ensures.written c.write_numbers-first_end.result.0 (one.1) (two.1) (one.0) (two.0)
     c.write_numbers-first_end.ensures.first c.write_numbers-first_end.ensures.end (omega (arith, start, room, long)))
 
 pub invariant_of-self-2 : goal.invariant_of-self-2
 invariant_of-self-2 c =
+    let one = c.is_kept.ensures c.if-not-is_kept.false in
+    let two = c.is_kept-else-not-is_kept.ensures c.if-not-is_kept-2.false in
     let kept = c.self.inside in
     let len = c.write_numbers-first_end.result.1 in
     let old = c.deref_mut.result.now in
@@ -32,8 +35,7 @@ invariant_of-self-2 c =
     let long : length bytes ≡ length old = c.write_numbers-first_end.ensures.len in
     subst (λ b. IsKept b kept.same c.write_numbers-first_end.result.0 len (c.args.first - c.args.first % 100) (c.args.second - c.args.second % 100)) (sym held)
     (kept_of old bytes kept.same len c.args.first c.args.second (omega (arith, start, room)) (omega (arith, start, room, long, c.write_numbers-first_end.ensures.end))
-    c.write_numbers-first_end.ensures.written c.write_numbers-first_end.result.0 (omega arith) (omega arith)
-    (omega (arith, c.if-first-lt100.false)) (omega (arith, c.if-second-lt100.false))
+    c.write_numbers-first_end.ensures.written c.write_numbers-first_end.result.0 (one.1) (two.1) (one.0) (two.0)
     c.write_numbers-first_end.ensures.first c.write_numbers-first_end.ensures.end (omega (arith, start, room, long)))
 
 pub returns-clause-same : goal.returns-clause-same

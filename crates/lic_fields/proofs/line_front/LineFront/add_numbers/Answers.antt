@@ -1,12 +1,15 @@
-use Rattle.std.proofs.Common.{◌≡◌, ◌∙◌, ◌+◌, ◌-◌, ◌/◌, ◌%◌, ◌≤◌, ◌<◌, ◌++◌, ◌∷◌, List, [], ℕ, true, false, length, take, drop, sym, ap, ap₂, arith, true≢false, length-append}
+use Rattle.std.proofs.Common.{◌≡◌, ◌∙◌, ◌+◌, ◌-◌, ◌/◌, ◌%◌, ◌≤◌, ◌<◌, ◌++◌, ◌∷◌, [], length, take, drop, sym, ap, arith, true≢false, length-append}
 use Rattle.std.proofs.lemmas.Grind.{common_steps}
 use Rattle.std.proofs.lemmas.List.{length-take-le, take-append-drop, take_at, with_items_is}
 use Rattle.std.specs.Prelude.{decimal}
 use Rattle.std.specs.Vec.{with_items}
 use Rattle.lic_fields.specs.Fields.{field}
-use Rattle.lic_fields.proofs.LineFronts.{first_changed, kept_ends, lined, near_hundreds, numbers_long, same_length, second_changed}
+use Rattle.lic_fields.proofs.LineFronts.{first_changed, fits, kept_ends, lined, near_hundreds, numbers_long, same_length, second_changed}
 use Rattle.lic_fields.proofs.line_front.LineFront.add_numbers.Goals as goal
 use Rattle.lic_fields.proofs.line_front.LineFront.add_numbers.Goals.{then-is_near, else-is_near}
+
+pub is_near-requires : goal.is_near-requires
+is_near-requires c = omega (arith, c.self.invariant.one_is, c.self.invariant.one_fits)
 
 pub overflow_add-start : goal.overflow_add-start
 overflow_add-start c =
@@ -68,8 +71,8 @@ returns-clause-front c =
     let block = c.add_block.new.lines in
     let after = drop end block.items in
     let long : length same ≡ kept.same = length-take-le kept.same kept.bytes.items (omega (arith, known.room)) in
-    let one_long = same_length [] [] first known.one (omega arith) known.one_fits known.one_large near_one.0 in
-    let two_long = same_length [] [] second known.two (omega arith) known.two_fits known.two_large near_two.0 in
+    let one_long = same_length [] [] first known.one (omega arith) (fits known.one known.one_fits) known.one_large near_one.0 in
+    let two_long = same_length [] [] second known.two (omega arith) (fits known.two known.two_fits) known.two_large near_two.0 in
     let block_is : block.items ≡ lined line same after (decimal known.one) (decimal known.two) =
     sym (take-append-drop end block.items)
     ∙ ap (λ l. l ++ after)
@@ -82,7 +85,7 @@ returns-clause-front c =
     ∙ (ap (λ p. take (c.len-start.result + kept.first_end - 2) c.deref_mut.result.now
     ++ ((48 + p / 10) ∷ (48 + p % 10) ∷ drop (c.len-start.result + kept.first_end) c.deref_mut.result.now)) near_one.1
     ∙ first_changed line same after (decimal known.two) c.deref_mut.result.now (c.len-start.result + kept.first_end) first known.one
-    (omega arith) known.one_fits known.one_large near_one.0 (c.deref_mut.ensures.value ∙ block_is) one_end) in
+    (omega arith) (fits known.one known.one_fits) known.one_large near_one.0 (c.deref_mut.ensures.value ∙ block_is) one_end) in
     let one_held = with_items_is block one (omega (arith, c.write_pair.auto, c.deref_mut.ensures.len)) in
     let two = c.write_pair-2.new.bytes in
     let two_end : end - 1 ≡ length line + (length same + (length (decimal first) + 1 + length (decimal known.two))) =
@@ -91,7 +94,7 @@ returns-clause-front c =
     c.write_pair-2.ensures
     ∙ (ap (λ p. take (end - 1 - 2) c.deref_mut-2.result.now ++ ((48 + p / 10) ∷ (48 + p % 10) ∷ drop (end - 1) c.deref_mut-2.result.now)) near_two.1
     ∙ second_changed line same after (decimal first) c.deref_mut-2.result.now (end - 1) second known.two
-    (omega arith) known.two_fits known.two_large near_two.0 (c.deref_mut-2.ensures.value ∙ (one_held ∙ one_is)) two_end) in
+    (omega arith) (fits known.two known.two_fits) known.two_large near_two.0 (c.deref_mut-2.ensures.value ∙ (one_held ∙ one_is)) two_end) in
     let two_held = with_items_is (with_items block one) two (omega (arith, c.write_pair-2.auto, c.deref_mut-2.ensures.len)) in
     let numbers = field (decimal first) 0x09 ++ field (decimal second) 0x09 in
     let whole : length (line ++ (same ++ numbers)) ≡ end =
