@@ -38,3 +38,4 @@ pub mod FrontLines
 pub mod OwnLanes
 pub mod OwnLetters
 pub mod OwnRuns
+pub mod TextEdges

@@ -2,6 +2,7 @@
 #![tactic(auto)]
 
 mod block;
+mod chars;
 mod columns;
 mod edges;
 mod flags;

@@ -6,32 +6,54 @@ ghost use Rattle.lic_trim.specs.Spaces.{TakesSpaces};
 ghost use Rattle.lic_columns.specs.PlainLines.{ArePlainLines, IsPlainLine};
 ghost use Rattle.lic_columns.specs.Simple.{IsSpelled};
 
+use crate::chars::{char_at_end, char_at_start};
 use crate::wide::spell_front;
 use lic_lines::Rules;
-use lic_trim::{takes_spaces, text_takes_spaces};
+use lic_trim::{keeps_all, takes_spaces};
 use memchr::memchr;
-use simdutf8::basic::from_utf8;
 use std::alloc::{AllocError, Global};
 
-/// Whether these bytes are UTF-8, and all that is taken from a line of them is white space, as far as its edges show.
+/// Whether all that is taken from a line in UTF-8 is white space, as far as its edges show: the first two characters of what is between
+/// its white space, and the last two.
+fn wide_takes_spaces(rules: &Rules, line: &[u8]) -> bool
+    ensures { IsTrue result → IsUtf8 line.now
+        → TakesSpaces (cut_of (rules_of rules.now) whole_line (chars line.now)) (chars line.now) }
+{
+    let text = line.trim_ascii();
+    let Some(first) = char_at_start(text) else {
+        return false;
+    };
+    let Some(second) = char_at_start(&text[first.len_utf8()..]) else {
+        return false;
+    };
+    let Some(last) = char_at_end(text) else {
+        return false;
+    };
+    let Some(before) = char_at_end(&text[..text.len() - last.len_utf8()]) else {
+        return false;
+    };
+    if first.is_whitespace() || last.is_whitespace() {
+        return false;
+    }
+    keeps_all(rules, first, second, before, last)
+}
+
+/// Whether all that is taken from a line in UTF-8 is white space, as far as its edges show.
 fn is_plain(rules: &Rules, line: &[u8]) -> bool
-    ensures utf8 { IsTrue result → IsUtf8 line.now }
-    ensures takes { IsTrue result → TakesSpaces (cut_of (rules_of rules.now) whole_line (chars line.now)) (chars line.now) }
+    ensures { IsTrue result → IsUtf8 line.now
+        → TakesSpaces (cut_of (rules_of rules.now) whole_line (chars line.now)) (chars line.now) }
 {
     if line.is_ascii() {
         return takes_spaces(rules, line);
     }
-    match from_utf8(line) {
-        Ok(text) => text_takes_spaces(rules, text),
-        Err(_) => false,
-    }
+    wide_takes_spaces(rules, line)
 }
 
-/// How many bytes the first line has, if it has ended, is in UTF-8, and nothing but white space is taken from it, as far as its edges
-/// show.
+/// How many bytes the first line has, if it has ended and, where it is in UTF-8, nothing but white space is taken from it, as far as its
+/// edges show.
 fn plain_line(rules: &Rules, bytes: &[u8]) -> Option<usize>
     ensures within { IfSome result (λ n. n ≤ length bytes.now) }
-    ensures plain { IfSome result (λ n. IsPlainLine (rules_of rules.now) (take n bytes.now)) }
+    ensures plain { IfSome result (λ n. IsUtf8 (take n bytes.now) → IsPlainLine (rules_of rules.now) (take n bytes.now)) }
 {
     let place = memchr(b'\n', bytes)?;
     let end = place + 1;

@@ -1,10 +1,11 @@
 //! Characters beyond ASCII, spelled byte for byte.
 ghost use Rattle.std.specs.Prelude.{◌≡◌, ◌<◌, ◌≤◌, ◌++◌, ◌∷◌, [], drop, length, map, nat_le, replicate, slice_index, IfOk, IfSome, IsTrue, OnOk, false};
 ghost use Rattle.std.specs.Simd.Lanes.{mask_l};
-ghost use Rattle.std.specs.Char.{IsScalar, encode_utf8, len_utf8};
+ghost use Rattle.std.specs.Char.{encode_utf8, len_utf8};
 ghost use Rattle.lic_kind.specs.Kinds.{kind_of, spell};
 ghost use Rattle.lic_columns.specs.Simple.{ArePut, AreOwn, IsNoFront, IsSimple, in_place};
 
+use crate::chars::first_char;
 use crate::own::letters_front;
 use lic_kind::{Kind, is_dash, is_quote, kind_of, spell, word_letter};
 use std::alloc::{AllocError, Global};
@@ -12,51 +13,6 @@ use std::simd::prelude::*;
 
 /// So many bytes of ASCII are looked at together.
 const AT_ONCE: usize = 16;
-
-/// The character of these two bytes.
-#[inline(always)]
-fn char_of_two(first: u8, second: u8) -> Option<char>
-    ensures scalar { IfSome result (λ c. IsScalar c) }
-    ensures low { IfSome result (λ c. 128 ≤ c) }
-    ensures high { IfSome result (λ c. c < 2048) }
-    ensures bytes { IfSome result (λ c. encode_utf8 c ≡ first ∷ second ∷ []) }
-{
-    if first < 0xC2 || first > 0xDF || second < 0x80 || second > 0xBF {
-        return None;
-    }
-    let code = (first as u32 - 0xC0) * 64 + (second as u32 - 0x80);
-    let Some(c) = char::from_u32(code) else {
-        return None;
-    };
-    Some(c)
-}
-
-/// The character of these three bytes.
-#[inline(always)]
-fn char_of_three(first: u8, second: u8, third: u8) -> Option<char>
-    ensures scalar { IfSome result (λ c. IsScalar c) }
-    ensures low { IfSome result (λ c. 2048 ≤ c) }
-    ensures high { IfSome result (λ c. c < 65536) }
-    ensures bytes { IfSome result (λ c. encode_utf8 c ≡ first ∷ second ∷ third ∷ []) }
-{
-    if first < 0xE0
-        || first > 0xEF
-        || second < 0x80
-        || second > 0xBF
-        || third < 0x80
-        || third > 0xBF
-    {
-        return None;
-    }
-    let code = ((first as u32 - 0xE0) * 64 + (second as u32 - 0x80)) * 64 + (third as u32 - 0x80);
-    if code < 2048 {
-        return None;
-    }
-    let Some(c) = char::from_u32(code) else {
-        return None;
-    };
-    Some(c)
-}
 
 /// Whether the character is of words, and its own letter.
 #[inline(always)]
@@ -68,29 +24,6 @@ fn is_own(c: char) -> bool
         Some(letter) => letter == c,
         None => false,
     }
-}
-
-/// The character beyond ASCII at the start of these bytes, if it has two or three of them.
-#[inline(always)]
-fn first_char(bytes: &[u8]) -> Option<char>
-    ensures scalar { IfSome result (λ c. IsScalar c) }
-    ensures beyond { IfSome result (λ c. 128 ≤ c) }
-    ensures few { IfSome result (λ c. len_utf8 c ≤ 3) }
-    ensures within { IfSome result (λ c. len_utf8 c ≤ length bytes.now) }
-    ensures bytes { IfSome result (λ c. bytes.now ≡ encode_utf8 c ++ drop (len_utf8 c) bytes.now) }
-{
-    if bytes.len() < 2 {
-        return None;
-    }
-    if bytes[0] < 0xE0 {
-        let two = char_of_two(bytes[0], bytes[1])?;
-        return Some(two);
-    }
-    if bytes.len() < 3 {
-        return None;
-    }
-    let three = char_of_three(bytes[0], bytes[1], bytes[2])?;
-    Some(three)
 }
 
 /// How many bytes a character beyond ASCII at the start of these has, if it is of words and its own letter, or else 0.

@@ -1,5 +1,5 @@
 -- A list item begins with a character of ASCII, a dash or a bullet.
-use Rattle.std.proofs.Common.{◌≡◌, ℕ, zero, suc, ◌+◌, ◌<◌, ◌≤◌, Bool, true, false, ◌||◌, ◌==◌, List, [], ◌∷◌, ◌++◌, inl, inr, length, take, drop, get_or, refl, sym, ap, ◌∙◌, arith}
+use Rattle.std.proofs.Common.{◌≡◌, ◌≢◌, ℕ, zero, suc, ◌+◌, ◌<◌, ◌≤◌, Bool, true, false, not, cond, ◌||◌, ◌==◌, List, [], ◌∷◌, ◌++◌, inl, inr, length, take, drop, get_or, refl, sym, ap, ◌∙◌, arith}
 use Rattle.std.specs.Prelude.{nat_le}
 use Rattle.std.specs.List.{position_or_len}
 use Rattle.std.specs.Int.{is_in_range}
@@ -25,36 +25,22 @@ apart c d lt = (one c d (λ same. let e : c ≡ d = same in absurd (omega arith)
     one : (a b : ℕ) → (a ≡ b → ⊥) → (a == b) ≡ false
     one a b other = elim (cases_Bool (a == b)) [ inl is ↦ absurd (other (eqb-true a b is)) | inr not' ↦ not' ]
 
-module _ (c : ℕ) (wide : 128 ≤ c) (dash : is_dash c ≡ false) (bullet : is_bullet c ≡ false) where
-  no_digit : is_ascii_digit c ≡ false
-  no_digit = not_in 48 57 c (omega arith)
+-- a character is none of these letters if it is no letter
+other_letter : (k c : ℕ) → is_ascii_alphabetic k ≡ true → is_ascii_alphabetic c ≡ false → (k == c) ≡ false
+other_letter k c letter none = elim (cases_Bool (k == c)) [
+  | inl is ↦ absurd (false≢true (sym none ∙ ap is_ascii_alphabetic (sym (eqb-true k c is)) ∙ letter))
+  | inr not' ↦ not'
+]
 
-  no_letter : is_ascii_alphabetic c ≡ false
-  no_letter = or_off _ _ (not_in 65 90 c (omega arith)) (not_in 97 122 c (omega arith))
-
+-- a character that no number, no letter and no parenthesis is: alone it may be a sign, but no longer word that it begins is an item
+module _ (c : ℕ) (no_digit : is_ascii_digit c ≡ false) (no_letter : is_ascii_alphabetic c ≡ false) (no_parenthesis : (c == 0x28) ≡ false) where
   no_roman : is_roman_digit c ≡ false
   no_roman =
-      or_off _ _ (apart 0x69 c (omega arith)).0
-      (or_off _ _ (apart 0x76 c (omega arith)).0
-      (or_off _ _ (apart 0x78 c (omega arith)).0
-      (or_off _ _ (apart 0x49 c (omega arith)).0
-      (or_off _ _ (apart 0x56 c (omega arith)).0 (or_off _ _ (apart 0x58 c (omega arith)).0 refl)))))
-
-  no_sign : is_bullet_sign c ≡ false
-  no_sign = or_off _ _ (or_off _ _ dash bullet) (apart 0x2B c (omega arith)).1
-
-  no_parenthesis : (c == 0x28) ≡ false
-  no_parenthesis = (apart 0x28 c (omega arith)).1
-
-  -- it does not end an item either
-  no_end : ((c == 0x2E) || (c == 0x29)) ≡ false
-  no_end = or_off _ _ (apart 0x2E c (omega arith)).1 (apart 0x29 c (omega arith)).1
-
-  alone : is_item_form (c ∷ []) ≡ false
-  alone =
-      or_off _ _
-      (or_off _ _ (or_off _ _ (off_and _ _ no_sign) (off_and _ _ (or_off _ _ no_end (apart 0x3A c (omega arith)).1))) (off_and _ _ no_end))
-      (off_and _ _ no_parenthesis)
+      or_off _ _ (other_letter 0x69 c refl no_letter)
+      (or_off _ _ (other_letter 0x76 c refl no_letter)
+      (or_off _ _ (other_letter 0x78 c refl no_letter)
+      (or_off _ _ (other_letter 0x49 c refl no_letter)
+      (or_off _ _ (other_letter 0x56 c refl no_letter) (or_off _ _ (other_letter 0x58 c refl no_letter) refl)))))
 
   longer : (fs : List ℕ) (last : ℕ) → is_item_form ((c ∷ fs) ++ last ∷ []) ≡ false
   longer fs last =
@@ -64,9 +50,8 @@ module _ (c : ℕ) (wide : 128 ≤ c) (dash : is_dash c ≡ false) (bullet : is_
       (or_off (is_letter (c ∷ fs)) (is_roman (c ∷ fs)) (and_off _ _ (off_and _ _ no_letter)) (and_off _ _ (off_and _ _ no_roman)))))
       (closed c fs last ∙ off_and _ _ no_parenthesis)
 
-  no_form : (text : List ℕ) → is_item_form (c ∷ text) ≡ false
-  no_form [] = alone
-  no_form (d ∷ more) =
+  no_long_form : (d : ℕ) (more : List ℕ) → is_item_form (c ∷ d ∷ more) ≡ false
+  no_long_form d more =
       let text = d ∷ more in
       let word = c ∷ text in
       let n = length text in
@@ -75,9 +60,34 @@ module _ (c : ℕ) (wide : 128 ≤ c) (dash : is_dash c ≡ false) (bullet : is_
       sym (ap (λ m. take m word) next ∙ take_all (length word) word (omega arith)) ∙ take_more word n 0 (omega arith) in
       ap is_item_form split ∙ longer (take (length more) text) (get_or word n 0)
 
+module _ (c : ℕ) (wide : 128 ≤ c) (dash : is_dash c ≡ false) (bullet : is_bullet c ≡ false) where
+  wide_digit : is_ascii_digit c ≡ false
+  wide_digit = not_in 48 57 c (omega arith)
+
+  wide_letter : is_ascii_alphabetic c ≡ false
+  wide_letter = or_off _ _ (not_in 65 90 c (omega arith)) (not_in 97 122 c (omega arith))
+
+  no_sign : is_bullet_sign c ≡ false
+  no_sign = or_off _ _ (or_off _ _ dash bullet) (apart 0x2B c (omega arith)).1
+
+  wide_parenthesis : (c == 0x28) ≡ false
+  wide_parenthesis = (apart 0x28 c (omega arith)).1
+
+  -- it does not end an item either
+  no_end : ((c == 0x2E) || (c == 0x29)) ≡ false
+  no_end = or_off _ _ (apart 0x2E c (omega arith)).1 (apart 0x29 c (omega arith)).1
+
+  alone : is_item_form (c ∷ []) ≡ false
+  alone =
+      or_off _ _
+      (or_off _ _ (or_off _ _ (off_and _ _ no_sign) (off_and _ _ (or_off _ _ no_end (apart 0x3A c (omega arith)).1))) (off_and _ _ no_end))
+      (off_and _ _ wide_parenthesis)
+
   no_front : (n : ℕ) (text : List ℕ) → is_item_form (take n (c ∷ text)) ≡ false
   no_front zero text = refl
-  no_front (suc n) text = no_form (take n text)
+  no_front (suc zero) text = alone
+  no_front (suc (suc n)) [] = alone
+  no_front (suc (suc n)) (d ∷ more) = no_long_form c wide_digit wide_letter wide_parenthesis d (take n more)
 
   pub no_item_front : (rules : LineRules) (text : List ℕ) → item_length rules (c ∷ text) ≡ 0
   no_item_front rules text =
@@ -92,6 +102,39 @@ or_none true b off = absurd (false≢true (sym off))
 
 beyond_ascii : (c : ℕ) → is_ascii c ≡ false → 128 ≤ c
 beyond_ascii c off = elim (cases_lt c 128) [ inl lt ↦ absurd (false≢true (sym off ∙ lt-ltb c 128 lt)) | inr le ↦ le ]
+
+less : (m n : ℕ) → m < n → m ≢ n
+less m n lt = λ e. absurd (omega (arith, lt, e))
+
+more : (m n : ℕ) → n < m → m ≢ n
+more m n lt = λ e. absurd (omega (arith, lt, e))
+
+-- where white space is not second, the first word has not one character alone
+not_one : (c d : ℕ) (text : List ℕ) → is_whitespace d ≡ false → position_or_len is_whitespace (c ∷ d ∷ text) ≢ 1
+not_one c d text dark = go (is_whitespace c) (is_whitespace d) (position_or_len is_whitespace text) dark
+  where
+    go : (a b : Bool) (n : ℕ) → b ≡ false → cond (not a) (1 + cond (not b) (1 + n) 0) 0 ≢ 1
+    go true b n off = less 0 1 (omega arith)
+    go false true n off = absurd (false≢true (sym off))
+    go false false n off = more (1 + (1 + n)) 1 (omega arith)
+
+-- a sign that has something other than white space after it
+pub no_item_sign : (c d : ℕ) → is_ascii_alphabetic c ≡ false → ((is_ascii_digit c || (c == 0x28)) || is_whitespace d) ≡ false
+    → (rules : LineRules) (text : List ℕ) → item_length rules (c ∷ d ∷ text) ≡ 0
+no_item_sign c d no_letter none rules text =
+    let parts = or_none (is_ascii_digit c || (c == 0x28)) (is_whitespace d) none in
+    let first = or_none (is_ascii_digit c) (c == 0x28) parts.0 in
+    let word = c ∷ d ∷ text in
+    let n = position_or_len is_whitespace word in
+    let form = take n word in
+    let lets = lets_item form (drop (length form) word) in
+    sym (item_off rules.items (is_item_form form) lets (length form)
+    (off_and (is_item_form form) lets (sign_front first.0 first.1 n text (not_one c d text parts.1))))
+  where
+    sign_front : is_ascii_digit c ≡ false → (c == 0x28) ≡ false → (n : ℕ) (more : List ℕ) → n ≢ 1 → is_item_form (take n (c ∷ d ∷ more)) ≡ false
+    sign_front no_digit no_parenthesis zero more other = refl
+    sign_front no_digit no_parenthesis (suc zero) more other = absurd (other refl)
+    sign_front no_digit no_parenthesis (suc (suc n)) more other = no_long_form c no_digit no_letter no_parenthesis d (take n more)
 
 -- a line with another first character, and what follows it
 pub no_item_line : (line : List SourceChar)

@@ -11,7 +11,6 @@ pub mod TailSequences
 pub mod Stops
 pub mod SpaceSequences
 pub mod PlainEdges
-pub mod TextEdges
 pub mod BeginningTexts
 pub mod PieceLengths
 pub mod SeparatorLengths

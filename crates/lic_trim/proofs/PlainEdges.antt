@@ -1,5 +1,5 @@
 -- Lines of which nothing but white space is taken, as two characters at each of their edges show.
-use Rattle.std.proofs.Common.{◌≡◌, ◌≢◌, ℕ, zero, suc, ◌+◌, ◌-◌, ◌<◌, ◌≤◌, Bool, true, false, not, ◌&&◌, ◌||◌, ◌==◌, List, [], ◌∷◌, ◌++◌, inl, inr, length, take, drop, get_or, reverse, refl, sym, ap, ap₂, subst, ◌∙◌, append_assoc, append-nil, ⊎_elim, arith, length-append}
+use Rattle.std.proofs.Common.{◌≡◌, ℕ, zero, suc, ◌+◌, ◌-◌, ◌<◌, ◌≤◌, Bool, true, false, not, ◌&&◌, ◌||◌, ◌==◌, List, [], ◌∷◌, ◌++◌, inl, inr, length, take, drop, get_or, reverse, refl, sym, ap, ap₂, subst, ◌∙◌, append_assoc, append-nil, ⊎_elim, arith, length-append}
 use Rattle.std.specs.Prelude.{nat_le, slice_index}
 use Rattle.std.specs.List.{list_all, position_or_len, AllByRecursion}
 use Rattle.std.specs.Int.{is_in_range}
@@ -8,14 +8,14 @@ use Rattle.std.proofs.Math.ListN.{get_or-append}
 use Rattle.std.proofs.Math.Seq.{get_or-append_seam, drop-append_seam}
 use Rattle.std.proofs.lemmas.Bool.{false≢true, and_parts, or_cases, or_left, or_right, leb-true, lt-ltb, cases_Bool, cases_lt}
 use Rattle.std.proofs.lemmas.List.{reverse-append, length-reverse, get_or-append-add, get_or-append_right, take_more, take_all}
-use Rattle.lic_kind.specs.Kinds.{kind_of, is_dash, is_bullet}
+use Rattle.lic_kind.specs.Kinds.{kind_of, is_dash, is_bullet, is_mark_kind}
 use Rattle.lic_kind.specs.declared.Kind.TheVariants as kind
 use Rattle.lic_kind.proofs.KindLemmas.{kind_of-alphanumeric, kind_of-dash, kind_of-bullet}
 use Rattle.lic_kind.specs.LineRules.{LineRules}
 use Rattle.lic_trim.specs.Texts.{is_sequence, longest_front}
 use Rattle.lic_trim.specs.Lines.{is_bullet_sign, is_roman_digit, is_letter, is_roman, is_item_form, lets_item, item_length, item_after_lead, lead_length, tail_length, cut_of, whole_line, LineCut}
 use Rattle.lic_trim.specs.Walks.{Side, Front, End, is_walked_piece, may_begin_with_any}
-use Rattle.lic_trim.specs.PlainEdges.{HasEdges, KeepsAll}
+use Rattle.lic_trim.specs.PlainEdges.{AreApart, HasEdges, KeepsAll}
 use Rattle.lic_trim.specs.Spaces.{TakesSpaces}
 use Rattle.lic_trim.proofs.SpaceSequences.{longest_standing, or_off}
 use Rattle.lic_trim.proofs.ItemFronts.{no_item_front}
@@ -43,7 +43,7 @@ white_at (w ∷ white) each zero lt = each.0
 white_at (w ∷ white) each (suc i) lt = white_at white each.1 i (omega arith)
 
 row_two : (rules : LineRules) (side : Side) (white : List ℕ) (c d : ℕ) (past : List ℕ) → AllByRecursion (λ w. is_whitespace w ≡ true) white
-    → is_whitespace c ≡ false → c ≢ d → may_begin_with_any rules side (c ∷ d ∷ past) ≡ false
+    → is_whitespace c ≡ false → AreApart c d → may_begin_with_any rules side (c ∷ d ∷ past) ≡ false
     → length white ≡ longest_front (is_sequence (is_walked_piece rules side)) (white ++ c ∷ d ∷ past)
 row_two rules side white c d past each dark other none =
     let n = length white in
@@ -55,7 +55,10 @@ row_two rules side white c d past each dark other none =
     (λ i lt. ap is_whitespace (get_or-append white rest 0 i lt) ∙ white_at white each i lt)
     (ap is_whitespace here ∙ dark)
     (ap (may_begin_with_any rules side) (drop-append_seam white rest) ∙ none)
-    (λ lt same. absurd (other (sym here ∙ sym same ∙ next)))
+    (elim other [
+      | inl differ ↦ inl (λ lt same. absurd (differ (sym here ∙ sym same ∙ next)))
+      | inr no_mark ↦ inr (ap (λ k. is_mark_kind (kind_of k)) here ∙ no_mark)
+    ])
 
 -- ---- items
 
@@ -224,7 +227,7 @@ module _ (rules : LineRules) (first second before last : ℕ) (line : List ℕ) 
     tail = tail_white;
   })
 
-pub keeps_all : (rules : LineRules) (first second before last : ℕ) → first ≢ second → last ≢ before
+pub keeps_all : (rules : LineRules) (first second before last : ℕ) → AreApart first second → AreApart last before
     → ((past : List ℕ) → may_begin_with_any rules Front (first ∷ second ∷ past) ≡ false)
     → ((past : List ℕ) → may_begin_with_any rules End (last ∷ before ∷ past) ≡ false)
     → ((past : List ℕ) → item_length rules (first ∷ second ∷ past) ≡ 0)

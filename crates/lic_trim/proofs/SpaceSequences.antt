@@ -70,7 +70,8 @@ greatest_itself test (suc k) h = search h
 module _ (rules : LineRules) (side : Side) (line : List ℕ) (n : ℕ) (inside : n < length line)
     (white : (i : ℕ) → i < n → is_whitespace (slice_index line i) ≡ true) (dark : is_whitespace (slice_index line n) ≡ false)
     (closed : may_begin_with_any rules side (drop n line) ≡ false)
-    (apart : n + 2 < length line → slice_index line (n + 1) ≡ slice_index line n → slice_index line (n + 2) ≢ slice_index line n) where
+    (apart : (n + 2 < length line → slice_index line (n + 1) ≡ slice_index line n → slice_index line (n + 2) ≢ slice_index line n)
+    ⊎ (is_mark_kind (kind_of (slice_index line n)) ≡ false)) where
   abbrev p : List ℕ → Bool
   p = is_walked_piece rules side
 
@@ -163,9 +164,13 @@ module _ (rules : LineRules) (side : Side) (line : List ℕ) (n : ℕ) (inside :
         let here : j ≡ n = omega arith in
         let one : j + 1 ≡ n + 1 = omega arith in
         let two : j + 2 ≡ n + 2 = omega arith in
-        apart (omega (arith, size))
+        ⊎_elim
+        (λ differ. differ (omega (arith, size))
         (sym (at 1 (omega (arith, size)) ∙ ap (slice_index line) one) ∙ each 1 (omega arith) ∙ sym (each 0 (omega arith)) ∙ same)
         (sym (at 2 (omega (arith, size)) ∙ ap (slice_index line) two) ∙ each 2 (omega arith) ∙ sym (each 0 (omega arith)) ∙ same))
+        (λ no_mark. false≢true
+        (sym no_mark ∙ ap (λ d. is_mark_kind (kind_of d)) (sym same ∙ each 0 (omega arith)) ∙ parts.2))
+        apart)
         (cases_lt j n))
         first
 

@@ -1,10 +1,15 @@
 -- Lines of which nothing but white space is taken, as two characters at each of their edges show.
-use Rattle.std.specs.Prelude.{◌≡◌, ℕ, true, false, List, [], ◌∷◌, ◌++◌}
+use Rattle.std.specs.Prelude.{◌≡◌, ◌≢◌, ◌⊎◌, ℕ, true, false, List, [], ◌∷◌, ◌++◌}
 use Rattle.std.specs.List.{AllByRecursion}
 use Rattle.std.specs.Char.{is_whitespace}
+use Rattle.lic_kind.specs.Kinds.{kind_of, is_mark_kind}
 use Rattle.lic_kind.specs.LineRules.{LineRules}
 use Rattle.lic_trim.specs.Lines.{cut_of, whole_line}
 use Rattle.lic_trim.specs.Spaces.{TakesSpaces}
+
+-- two characters that are not one same mark
+abbrev pub AreApart : ℕ → ℕ → Type 0
+AreApart c d = (c ≢ d) ⊎ (is_mark_kind (kind_of c) ≡ false)
 
 -- white space, then a text that begins with the first two of these characters and ends with the other two, and white space again
 pub record HasEdges (line : List ℕ) (first second before last : ℕ) : Type 0 where

@@ -17,5 +17,5 @@ mod space_sequences;
 pub use ascii_cut::{cut_of_ascii, takes_spaces};
 pub use cut::{LineCut, cut_line};
 pub use line_part::LinePart;
-pub use plain_edges::text_takes_spaces;
+pub use plain_edges::keeps_all;
 pub use source::{SourceChar, unplaced};

@@ -1,12 +1,12 @@
 //! Lines of which nothing but white space is taken, as two characters at each of their edges show.
-ghost use Rattle.std.specs.Prelude.{◌≡◌, ℕ, ◌∷◌, List, IsTrue, false, chars};
+ghost use Rattle.std.specs.Prelude.{◌≡◌, ℕ, ◌∷◌, List, IsTrue, false};
 ghost use Rattle.lic_kind.specs.LineRules.{LineRules, rules_of};
-ghost use Rattle.lic_trim.specs.Lines.{cut_of, item_length, whole_line};
-ghost use Rattle.lic_trim.specs.PlainEdges.{KeepsAll};
-ghost use Rattle.lic_trim.specs.Spaces.{TakesSpaces};
+ghost use Rattle.lic_trim.specs.Lines.{item_length};
+ghost use Rattle.lic_trim.specs.PlainEdges.{AreApart, KeepsAll};
 ghost use Rattle.lic_trim.specs.Walks.{may_begin_with_any};
 
 use crate::item::{is_roman_digit, may_begin_item};
+use crate::sequences::is_mark;
 use crate::side::Side;
 use crate::space_sequences::begun_texts;
 use lic_kind::Rules;
@@ -23,30 +23,41 @@ fn is_plain(rules: &Rules, side: Side, first: char, second: char) -> bool
     begun == 0
 }
 
-/// Whether a line with these first two characters begins with no item.
+/// Whether a line with these first two characters begins with no item. A sign that is one has white space after it.
 #[inline(always)]
 fn begins_no_item(first: char, second: char) -> bool
     ensures { IsTrue result → (rules : LineRules) (past : List ℕ)
         → item_length rules (first ∷ second ∷ past) ≡ 0 }
 {
-    if !first.is_ascii_alphabetic() {
-        return !may_begin_item(first);
+    if first.is_ascii_alphabetic() {
+        let ends = (second == '.') | (second == ')');
+        let roman = is_roman_digit(first) & is_roman_digit(second);
+        return !(ends | roman);
     }
-    let ends = (second == '.') | (second == ')');
-    let roman = is_roman_digit(first) & is_roman_digit(second);
-    !(ends | roman)
+    if !may_begin_item(first) {
+        return true;
+    }
+    !(first.is_ascii_digit() | (first == '(') | second.is_whitespace())
+}
+
+/// Whether these two are not one same mark, of which three are a separator.
+#[inline(always)]
+fn are_apart(first: char, second: char) -> bool
+    ensures { IsTrue result → AreApart first second }
+{
+    first != second || !is_mark(first)
 }
 
 /// Whether nothing but white space is taken from a line, as far as the first two characters and the last two of what it has between its
 /// white space show.
 #[inline(always)]
-fn keeps_all(rules: &Rules, first: char, second: char, before: char, last: char) -> bool
+pub fn keeps_all(rules: &Rules, first: char, second: char, before: char, last: char) -> bool
     ensures { IsTrue result → KeepsAll (rules_of rules.now) first second before last }
 {
-    if first == second {
+    if !are_apart(first, second) {
         return false;
     }
-    if last == before {
+    if !are_apart(last, before) {
         return false;
     }
     if !begins_no_item(first, second) {
@@ -56,31 +67,4 @@ fn keeps_all(rules: &Rules, first: char, second: char, before: char, last: char)
         return false;
     }
     is_plain(rules, Side::End, last, before)
-}
-
-/// Whether all that is taken from a whole line is white space, as far as the first two characters and the last two of what it has
-/// between its white space show.
-pub fn text_takes_spaces(rules: &Rules, line: &str) -> bool
-    ensures { IsTrue result → TakesSpaces (cut_of (rules_of rules.now) whole_line (chars line.now)) (chars line.now) }
-{
-    let text = line.trim();
-    let mut front = text.chars();
-    let Some(first) = front.next() else {
-        return false;
-    };
-    let Some(second) = front.next() else {
-        return false;
-    };
-    let mut end = text.chars();
-    let Some(last) = end.next_back() else {
-        return false;
-    };
-    let Some(before) = end.next_back() else {
-        return false;
-    };
-    let _ = end.as_str();
-    if first.is_whitespace() || last.is_whitespace() {
-        return false;
-    }
-    keeps_all(rules, first, second, before, last)
 }

@@ -4,7 +4,6 @@ use Rattle.lic_columns.proofs.PlainLines.{plain_found}
 use Rattle.lic_columns.proofs.plain.plain_line.Goals as goal
 
 pub returns-then-is_plain-clause-plain : goal.returns-then-is_plain-clause-plain
-returns-then-is_plain-clause-plain c =
+returns-then-is_plain-clause-plain c = λ utf8.
     let bytes : List ℕ = c.args.bytes.now in
-    let yes = c.if-is_plain.true in
-    plain_found (rules_of c.args.rules.now) bytes c.in_ok-place.place c.in_ok-place.ensures (c.is_plain.ensures.utf8 yes) (c.is_plain.ensures.takes yes)
+    plain_found (rules_of c.args.rules.now) bytes c.in_ok-place.place c.in_ok-place.ensures utf8 (c.is_plain.ensures c.if-is_plain.true utf8)

@@ -24,7 +24,8 @@ loop-count-preserved c =
     let whole : simple ≡ count = omega (arith, c.if-simple-count.false, put.within, length-take bounded (drop at bytes)) in
     let same : take simple here ≡ take count rest =
     take-take simple bounded (drop at bytes) (omega (arith, whole)) ∙ ap (λ n. take n (drop at bytes)) whole ∙ ap (take count) (sym (take_rest bytes at)) in
-    let line = put_spelled here simple c.loop-count.spelled.items c.spell_front.new.spelled.items put in (
+    let line = put_spelled here simple c.loop-count.spelled.items c.spell_front.new.spelled.items put in
+    let spelled : IsSpelled (take count rest) line.0 = subst (λ l. IsSpelled l line.0) same line.2 in (
       omega (
         arith,
         c.loop-count.invariant.0,
@@ -32,10 +33,10 @@ loop-count-preserved c =
         length-drop at bytes,
         length-take-le (length bytes - at) (drop at bytes) (omega (arith, length-drop at bytes)),
       ),
-      next_plain rules bytes rest at count (take_rest bytes at) c.loop-count.invariant.1 c.in-Some.ensures.plain,
+      next_plain rules bytes rest at count (take_rest bytes at) c.loop-count.invariant.1 (c.in-Some.ensures.plain spelled.utf8),
       subst (IsSpelled (take (at + count) bytes)) (sym line.1)
           (line_spelled rules bytes rest c.loop-count.spelled.items line.0 at count (take_rest bytes at) c.loop-count.invariant.1 c.loop-count.invariant.2
-          (subst (λ l. IsSpelled l line.0) same line.2)),
+          spelled),
     )
 
 pub returns-then-simple-count-clause-spelled : goal.returns-then-simple-count-clause-spelled

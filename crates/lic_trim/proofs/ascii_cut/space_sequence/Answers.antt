@@ -1,4 +1,4 @@
-use Rattle.std.proofs.Common.{◌≡◌, ◌∙◌, length, arith}
+use Rattle.std.proofs.Common.{◌≡◌, inl, ◌∙◌, length, arith}
 use Rattle.lic_kind.specs.LineRules.{rules_of}
 use Rattle.lic_trim.specs.Walks.{walked}
 use Rattle.lic_trim.proofs.SpaceSequences.{longest_standing, longest_of_spaces}
@@ -12,7 +12,7 @@ returns-clause-sequence c =
     let known = c.spaces-count.ensures in
     longest_standing (rules_of c.args.rules.now) side (walked side c.args.line.now) c.spaces-count.result (omega arith) known.all (known.stop (omega arith))
     (c.in_ok-begun.ensures.closed (omega (arith, c.if-begun-ne0.false)))
-    (λ lt. c.three_alike.ensures c.if-three_alike.false (omega arith))
+    (inl (λ lt. c.three_alike.ensures c.if-three_alike.false (omega arith)))
 
 pub returns-then-count-line-clause-sequence : goal.returns-then-count-line-clause-sequence
 returns-then-count-line-clause-sequence c =

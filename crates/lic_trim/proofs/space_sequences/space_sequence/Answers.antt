@@ -1,4 +1,4 @@
-use Rattle.std.proofs.Common.{◌≡◌, ◌+◌, ◌∙◌, length, drop, get_or, sym, ap, length-drop, arith}
+use Rattle.std.proofs.Common.{◌≡◌, inl, ◌+◌, ◌∙◌, length, drop, get_or, sym, ap, length-drop, arith}
 use Rattle.std.proofs.lemmas.List.{get_or-drop}
 use Rattle.lic_trim.specs.Sources.{chars_of}
 use Rattle.lic_kind.specs.LineRules.{rules_of}
@@ -24,7 +24,7 @@ returns-clause-sequence c =
     }) in
     longest_standing rules side line n (omega arith) known.all (known.stop (omega arith))
     (begun.closed (omega (arith, c.if-begun-ne0.false)))
-    (λ lt. c.three_alike.ensures c.if-three_alike.false (omega arith))
+    (inl (λ lt. c.three_alike.ensures c.if-three_alike.false (omega arith)))
 
 pub returns-then-count-line-clause-sequence : goal.returns-then-count-line-clause-sequence
 returns-then-count-line-clause-sequence c =
