@@ -1,6 +1,6 @@
 -- The first two characters of what a line has between its white space of ASCII, and the last two.
-use Rattle.std.proofs.Common.{◌≡◌, ℕ, zero, suc, ◌+◌, ◌<◌, ◌≤◌, Bool, true, false, ◌||◌, List, [], ◌∷◌, ◌++◌, length, take, drop, get_or, refl, sym, ap, ap₂, subst, ◌∙◌, ⊎_elim, arith, length-take, length-drop, append_assoc, append-nil, take_at}
-use Rattle.std.specs.Prelude.{nat_le, slice_index, chars, IsUtf8, IsAscii, encode_utf8_all}
+use Rattle.std.proofs.Common.{◌≡◌, ℕ, zero, suc, ◌+◌, ◌<◌, ◌≤◌, true, false, ◌||◌, List, [], ◌∷◌, ◌++◌, length, take, drop, get_or, refl, sym, ap, ap₂, subst, ◌∙◌, ⊎_elim, arith, length-take, length-drop, append_assoc, append-nil, take_at}
+use Rattle.std.specs.Prelude.{nat_le, chars, IsUtf8, IsAscii}
 use Rattle.std.specs.Str.{IsCharBoundary, IsAsciiWhitespaceBelow, IsAsciiWhitespaceFrom}
 use Rattle.std.specs.Int.{is_in_range}
 use Rattle.std.specs.Char.{IsScalar, encode_utf8, is_ascii_whitespace, is_whitespace}

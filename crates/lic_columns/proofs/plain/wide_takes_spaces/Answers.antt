@@ -1,4 +1,4 @@
-use Rattle.std.proofs.Common.{◌≡◌, ◌-◌, ◌++◌, ℕ, List, length, take, drop, false, sym, ap, subst, ◌∙◌, arith}
+use Rattle.std.proofs.Common.{◌≡◌, ◌-◌, ◌++◌, ℕ, List, length, take, drop, false, sym, ap, subst, ◌∙◌}
 use Rattle.std.specs.Prelude.{chars}
 use Rattle.std.specs.Char.{encode_utf8, is_whitespace, len_utf8}
 use Rattle.std.proofs.lemmas.List.{take_rest}
