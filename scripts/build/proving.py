@@ -1,7 +1,7 @@
 """Proves crates of this repository by the gate's command, `rt ci`, on copies of them without must-fail edits.
 
 The longest chain of crates that depend on each other decides how long all take. So of the crates whose libraries are proved the one is begun next
-on which the longest chain depends, and two or three are proved side by side: the one with the longest chain by several jobs, the others by one each
+on which the longest chain depends, and two to four are proved side by side: those with the longest chains by several jobs, the others by one each
 where cores lack. That is for a kit whose `rt ci` keeps what it proved for each later run over the same files, so that it is proved once, whether by the
 first command or by the gate. With another kit all crates are proved in one run."""
 import os
@@ -24,8 +24,10 @@ PROVED = re.compile(rb"rt: (\w+) (?:proved$|is kept: )")
 KEPT = 0.5
 # a crate that is proved in seconds
 ONE = "//! One, at {}.\n#![tactic(auto)]\n\n/// One.\npub fn one() -> u8 {{\n    1\n}}\n"
+# a run whose chain is shorter than the longest one by a quarter or more is so nice to it
+NICEST = 10
 # the proof of a crate takes up to this
-MEMORY_OF_A_CRATE = 6_000_000_000
+MEMORY_OF_A_CRATE = 3_000_000_000
 
 
 def say(text):
@@ -113,7 +115,7 @@ def jobs_of_a_proof():
 def workers():
     """How many crates are proved at a time."""
     memory = os.sysconf("SC_PAGE_SIZE") * os.sysconf("SC_PHYS_PAGES")
-    return max(2, min(3, (os.cpu_count() or 1) - 1, memory // MEMORY_OF_A_CRATE))
+    return max(2, min(4, os.cpu_count() or 1, memory // MEMORY_OF_A_CRATE))
 
 
 class Proving:
@@ -139,6 +141,11 @@ class Proving:
             names += above
         return names
 
+    def nice(self, name):
+        """How nice a run is to the others: the shorter its chain is beside the longest one that is begun, the nicer."""
+        longest = max(self.chains[it] for it in self.begun - self.proved)
+        return min(NICEST, 4 * NICEST * (longest - self.chains[name]) // longest)
+
     def take(self):
         """The crates to prove in the next run, how nice it is to the others, and how many jobs it has, or None where none is left."""
         with self.change:
@@ -146,14 +153,14 @@ class Proving:
                 if ready := self.ready([]):
                     running = self.begun - self.proved
                     name = max(ready, key=self.chains.get)
-                    is_first = all(self.chains[it] < self.chains[name] for it in running)
                     names = [name] if running or len(ready) > 1 else self.one_after_another(name)
-                    # two jobs take a third more processor time than one
-                    jobs = jobs_of_a_proof() if is_first or self.jobs + jobs_of_a_proof() <= (os.cpu_count() or 1) else 1
                     self.left -= set(names)
                     self.begun |= set(names)
+                    nice = self.nice(name)
+                    # two jobs take a third more processor time than one
+                    jobs = jobs_of_a_proof() if nice < NICEST or self.jobs + jobs_of_a_proof() <= (os.cpu_count() or 1) else 1
                     self.jobs += jobs
-                    return names, 0 if is_first else 10, jobs
+                    return names, nice, jobs
                 self.change.wait()
             return None
 
