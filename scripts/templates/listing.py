@@ -46,6 +46,8 @@ SECTIONS = [
     ("no-grant", "Words that give no licence", "They keep a sentence from being called a grant."),
     ("mention", "Mentions", "Names in words, in `examples/mentions`."),
 ]
+FIELDS = """Fields of manifests and headers: first those of a name of less than seven letters. Forms that a longer name has, and that these were not found to
+have in XX,XXX files of XXX projects, are left out: `license = ["NAME`, `license": NAME`, `license": [NAME` and `license = [NAME`."""
 # templates that no project is known to have, and what would be said without them
 GUARDED = [(r"(.*)-or-later-notice-m", r"\1-only"), (r"(.*(?<!LGPL-2.0))-or-later-notice-i", r"\1-only"), (r"no-grant-mention-l", "public-domain")]
 # the kinds of tags, and what each describes
@@ -155,15 +157,23 @@ def kinds(seen):
         yield wrapped(f"- `{title}`: {text}." + (f"{place(seen[real])}, `{real}`: {shown(seen[real][2])}" if real else " Found nowhere yet: SPDX's grammar has it."), "  ")
 
 
+def frames_of_fields():
+    """The names of the templates of fields that fields.py makes, which names have them, and their texts."""
+    short, middle = tags.SHORT_FIELDS, {suffix: text for suffix, text in tags.MIDDLE_FIELDS.items() if text != tags.SHORT_FIELDS.get(suffix)}
+    for forms, letters in ((short, ""), (middle, " of seven letters"), ({"": tags.FIELD}, " of more letters")):
+        yield from ((f"NAME-field{suffix}", letters, text) for suffix, text in forms.items())
+    yield "NAME-field-r", "", fields.WITH_FILE
+
+
 def made_fields(made, seen):
     """A line for each frame of the fields that fields.py makes, and one of those that are cut; then the names of all of them. Of a frame that was found
     with a longer name alone, which has another template, the example is that of the frame."""
     names_of_made = fields.names()
-    for title, text in [*((f"NAME-field{suffix}", text) for suffix, text in tags.SHORT_FIELDS.items()), ("NAME-field-u", tags.MIDDLE_FIELDS["-u"]), ("NAME-field", tags.FIELD), ("NAME-field-r", fields.WITH_FILE)]:
+    for title, letters, text in frames_of_fields():
         these = {text.format(name) for name in names_of_made + fields.OF_R}
         alike = [it for it in sorted(seen) if len(seen[it]) == 3 and made.get(it) in these]
         real = seen[alike[0]] if alike else seen[title]
-        yield wrapped(f"- `{title}`: {shown(original_of(text.format('NAME')))}.{place(real)}{f', `{alike[0]}`' if alike else ''}: {shown(real[2])}", "  ")
+        yield wrapped(f"- `{title}`{letters}: {shown(original_of(text.format('NAME')))}.{place(real)}{f', `{alike[0]}`' if alike else ''}: {shown(real[2])}", "  ")
     real = next((it for it in sorted(seen) if re.match("cut-.*-field", it)), None)
     yield wrapped("- `cut-NAME-field`, `-b` ..: each of these where the name goes on, as `MIT-Own`." + (f"{place(seen[real])}, `{real}`: {shown(seen[real][2])}" if real else ""), "  ")
     yield "\nNAME is one of these; those that SPDX publishes and that go on after another one are guards of that:\n"
@@ -188,7 +198,7 @@ def page():
         lines += [f"## {title}\n", wrapped(sentence) + "\n", "\n".join(these + (list(longer_notices()) if kind == "notice" else [])) + "\n"]
     made = dict(fields.templates())
     by_hand = {it: text for it, text in found["field"].items() if it not in made}
-    lines += ["## Fields\n", "Fields of manifests and headers. Of each name there are these:\n", "\n".join(made_fields(made, seen)) + "\n"]
+    lines += ["## Fields\n", wrapped(FIELDS) + "\n", "\n".join(made_fields(made, seen)) + "\n"]
     lines += ["Other fields:\n", "\n".join(item(*it, by_hand, seen) for it in sorted(by_hand.items())) + "\n"]
     lines += ["## Tags\n", "\n".join(kinds(seen)) + "\n", "NAME of an identifier is\n", names("identifier", found, KIND) + "\n"]
     ends = sorted({re.sub("^(expression|cut)-(OR|AND|WITH)-|(-[b-d])?(-dot)?$", "", it) for it in found["expression"] if re.match("expression-", it)})

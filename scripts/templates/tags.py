@@ -3,7 +3,7 @@
 
 Each template goes to OUT/NAME-identifier.template.txt and describes `SPDX-License-Identifier: IDENTIFIER`. With --field it goes
 to OUT/NAME-field.template.txt and describes the field of a manifest or header: `"license": "IDENTIFIER"`, `license = "IDENTIFIER"`,
-`:license: IDENTIFIER`. An identifier of seven letters has six templates, NAME-field, NAME-field-e .., and a shorter one twelve,
+`:license: IDENTIFIER`. An identifier of seven letters has six templates, NAME-field, NAME-field-e .., and a shorter one thirteen,
 NAME-field, NAME-field-b ..: a file is searched for the longest text of a template, and with one for all forms that would be the word
 `license`, which is frequent. NAME is the identifier, with `-` for blanks and without parentheses. A file of that name is written anew.
 
@@ -35,11 +35,11 @@ def optional(text):
 # a quote, underscores, a colon or an equals sign, the end of a tag of XML, a bracket, a quote
 FIELD = "license " + "".join(map(optional, ['"', "__", ":", "=", ">", "[", '"'])) + "{}\n"
 # The same of an identifier that is not longer than `license`: each form has a text with the identifier in it that is. Of one of seven letters that is
-# the identifier with its quote.
+# the identifier with the mark before it.
 MIDDLE_FIELDS = {
-    "": "license: {}\n",
+    "": "license " + optional('"') + ": {}\n",
     "-e": "license {}\n",
-    "-m": "license: [{}\n",
+    "-m": "license " + "".join(map(optional, ['"', ":", "="])) + "[{}\n",
     "-p": "license = {}\n",
     "-u": FIELD.replace(optional('"') + "{}", '"{}'),
     "-x": "license>{}\n",
@@ -56,6 +56,7 @@ SHORT_FIELDS = {
     "-n": "license: [\"{}\n",
     "-o": "license\": [\"{}\n",
     "-p": "license = {}\n",
+    "-q": "license [{}\n",
     "-x": "license>{}\n",
 }
 
