@@ -49,7 +49,7 @@ SECTIONS = [
     ("no-grant", "Words that give no licence", "They keep a sentence from being called a grant."),
     ("mention", "Mentions", "Names in words, in `examples/mentions`."),
 ]
-FIELDS = """Fields of manifests and headers: first those of a name of less than seven letters. Forms that a longer name has, and that these were not found to
+FIELDS = """Fields of manifests and headers: first those of a name of less than six letters. Forms that a longer name has, and that these were not found to
 have in 88,128 files of 1,394 projects, are left out: `license = ["NAME`, `license": NAME`, `license": [NAME` and `license = [NAME`."""
 # templates that no project is known to have, and what would be said without them
 GUARDED = [(r"(.*)-or-later-notice-m", r"\1-only"), (r"(.*(?<!LGPL-2.0))-or-later-notice-i", r"\1-only"), (r"no-grant-mention-l", "public-domain")]
@@ -161,20 +161,21 @@ def kinds(seen):
 
 
 def frames_of_fields():
-    """The names of the templates of fields that fields.py makes, which names have them, and their texts."""
-    short, middle = tags.SHORT_FIELDS, {suffix: text for suffix, text in tags.MIDDLE_FIELDS.items() if text != tags.SHORT_FIELDS.get(suffix)}
-    for forms, letters in ((short, ""), (middle, " of seven letters"), ({"": tags.FIELD}, " of more letters")):
-        yield from ((f"NAME-field{suffix}", letters, text) for suffix, text in forms.items())
-    yield "NAME-field-r", "", fields.WITH_FILE
-    yield from ((f"NAME-field{suffix}", "", text) for suffix, text in fields.LISTS.items())
+    """The ends of the names of the fields that fields.py makes, which names have them, and their texts."""
+    kinds = {"": tags.SHORT_FIELDS, " of six letters": tags.SIX_FIELDS, " of seven letters": tags.MIDDLE_FIELDS, " of more letters": {"": tags.FIELD}}
+    for letters, forms in kinds.items():
+        yield from ((suffix, letters, text) for suffix, text in forms.items() if not letters or text != tags.SHORT_FIELDS.get(suffix))
+    yield "-r", "", fields.WITH_FILE
+    yield from ((suffix, "", text) for suffix, text in fields.LISTS.items())
 
 
 def made_fields(made, seen):
     """A line for each frame of the fields that fields.py makes, and one of those that are cut; then the names of all of them. Of a frame that was found
-    with a longer name alone, which has another template, the example is that of the frame."""
+    with another name alone, which has another template, the example is that of the frame."""
     names_of_made = fields.names()
-    for title, letters, text in frames_of_fields():
-        these = {text.format(name) for name in names_of_made + fields.OF_R + fields.OF_LISTS}
+    for suffix, letters, text in frames_of_fields():
+        title, frames = f"NAME-field{suffix}", {text, tags.SHORT_FIELDS.get(suffix, text)}
+        these = {frame.format(name) for frame in frames for name in names_of_made + fields.OF_R + fields.OF_LISTS}
         alike = [it for it in sorted(seen) if len(seen[it]) == 3 and made.get(it) in these]
         real = seen[alike[0]] if alike else seen[title]
         yield wrapped(f"- `{title}`{letters}: {shown(original_of(text.format('NAME')))}.{place(real)}{f', `{alike[0]}`' if alike else ''}: {shown(real[2])}", "  ")
