@@ -1,8 +1,8 @@
 #!/usr/bin/env python3
 """Writes a draft of debian/copyright: licscan scan .. | debian.py [--name NAME]
 
-Each file has its texts, notices, tags and fields, or its mentions where it has nothing else; a family is left out beside a version of it. Names
-are Debian's. Years and holders are those of the files' own notices and fields of SPDX, each holder once. The most frequent answer is that of
+Each file has its texts, notices, tags and fields, or its mentions where it has nothing else; a family is left out beside a version of it, and alone
+is the version of it that a LICENSE or COPYING has in the file's folder, or else in one above. Names are Debian's. Years and holders are those of the files' own notices and fields of SPDX, each holder once. The most frequent answer is that of
 `Files: *`; a folder whose files all have another one is one glob, so a file without an answer goes with its folder. Licences end the page: a
 reference to /usr/share/common-licenses, or the text as a file or the folder LICENSES has it, or FIXME. debian/copyright and quilt's .pc are left out,
 and what FILE.license has is said of FILE, too. It is run in the folder of the files. What it writes is to be read: a file's licences may be a choice
@@ -25,6 +25,8 @@ NAMES = {"MIT": "Expat", "Artistic-1.0-Perl": "Artistic", "BSD-2-Clause": "BSD-2
          "BSD-4-Clause": "BSD-4-clause", "PSF-2.0": "Python", "Python-2.0": "Python"}
 # a permission beside a licence
 EXCEPTION = re.compile(r"([A-Za-z]+-exception)-([\d.]+-)?notice")
+# a file that has the licence of its folder
+OF_FOLDER = re.compile(r"(licen[cs]e|copying)([-._].*)?", re.IGNORECASE)
 VERSIONED = re.compile(r"((?:[AL]?GPL|GFDL)-\d+(?:\.\d+)?)(-or-later|-only|\+)?$")
 
 
@@ -70,6 +72,29 @@ def licences_of(found):
     return names
 
 
+def folders_of(file):
+    """Its folder, the one above, and so on."""
+    while file:
+        file = os.path.dirname(file)
+        yield file
+
+
+def with_versions(answers):
+    """A family alone is the version of it that the next LICENSE or COPYING at its file, or above, has."""
+    of_folders = collections.defaultdict(set)
+    for file, answer in answers.items():
+        if OF_FOLDER.fullmatch(os.path.basename(file)) and " " not in answer:
+            of_folders[os.path.dirname(file)].add(answer)
+    versions = {}
+    for file, answer in answers.items():
+        family = answer.removesuffix("-style")
+        if family in lines.FAMILIES:
+            found = ([it for it in of_folders[folder] if it.startswith(f"{family}-")] for folder in folders_of(file))
+            nearest = next(filter(None, found), [])
+            versions[file] = nearest[0] if len(nearest) == 1 else answer
+    return answers | versions
+
+
 def globs(answers):
     """The files of each answer, or folders whose files all have it; `*` for the most frequent one, which comes first."""
     below = collections.defaultdict(collections.Counter)
@@ -112,6 +137,7 @@ def page(found, name):
     answers = {file: licence_of(licences_of(it)) or "FIXME" for file, it in found.items() if any(one.licence != "" for one in it)}
     # what is in NAME.license is said of NAME
     answers.update({it.removesuffix(".license"): answers[it] for it in list(answers) if it.endswith(".license") and os.path.exists(it.removesuffix(".license"))})
+    answers = with_versions(answers)
     texts = {name_of(one.id): one for it in found.values() for one in it if lines.SUFFIX.sub("", one.id) == one.id and one.licence}
     for file, answer in answers.items():
         if " with " in answer and exceptions_of(found.get(file, [])):

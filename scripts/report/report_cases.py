@@ -63,6 +63,13 @@ GLOBS = [
     ({"a.c": "X", "b.c": "X", "s/c.c": "Y"}, {"X": ["*"], "Y": ["s/c.c"]}), ({"a.c": "X", "s/t/b.c": "Y", "s/t/c.c": "Y", "c.c": "X"}, {"X": ["*"], "Y": ["s/*"]}),
     ({"s/a.c": "X", "s/b.c": "X", "s/t/c d.c": "Y", "s/t/d.c": "Z"}, {"X": ["*"], "Y": ["s/t/c?d.c"], "Z": ["s/t/d.c"]}),
 ]
+# the answers of files, and those with a version in place of a family
+VERSIONS = [
+    ({"LICENSE": "BSD-3-clause", "s/a.hs": "BSD-style", "s/b.hs": "BSD", "s/c.c": "GPL"}, {"LICENSE": "BSD-3-clause", "s/a.hs": "BSD-3-clause", "s/b.hs": "BSD-3-clause", "s/c.c": "GPL"}),
+    ({"COPYING": "GPL-3", "s/LICENSE.txt": "GPL-2+", "s/t/a.c": "GPL", "a.c": "GPL"}, {"COPYING": "GPL-3", "s/LICENSE.txt": "GPL-2+", "s/t/a.c": "GPL-2+", "a.c": "GPL-3"}),
+    ({"COPYING": "GPL-3", "COPYING.old": "GPL-2", "a.c": "GPL"}, {"COPYING": "GPL-3", "COPYING.old": "GPL-2", "a.c": "GPL"}),
+    ({"LICENSE": "BSD-3-clause and Expat", "t/BSD.c": "BSD-2-clause", "a.c": "BSD"}, {"LICENSE": "BSD-3-clause and Expat", "t/BSD.c": "BSD-2-clause", "a.c": "BSD"}),
+]
 # lines of files, and their notices
 NOTICES = [
     (" * Copyright (C) 2019-2024 A. Author <a@b.c>", ["2019-2024 A. Author <a@b.c>"]), ("/* (c) 2001, 2003 by Z. Zed. All rights reserved. */", ["2001, 2003 Z. Zed"]),
@@ -112,6 +119,7 @@ def main():
     cases += [(names, debian.licence_of(names), field) for names, field, _ in FIELDS]
     cases += [(names, spdx.in_file(names), ids) for names, _, ids in FIELDS]
     cases += [(answers, debian.globs(answers), globs) for answers, globs in GLOBS]
+    cases += [(answers, debian.with_versions(answers), expected) for answers, expected in VERSIONS]
     cases += [(text, notices.found(text), expected) for text, expected in NOTICES]
     cases += [(them, notices.merged(them), expected) for them, expected in MERGED]
     cases += [(ids, lines.answer([lines.Match("f", id, 0) for id in ids]), answer) for ids, answer in FILES]

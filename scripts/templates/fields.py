@@ -6,6 +6,7 @@
 - cut-NAME-field ..: a field whose name goes on after one of these and is none, with the mark or word after it in the variable `next`: `-` of
   `"license": "MIT-Own"`.
 - NAME-field-r: a field of an R package with a file beside the licence: `License: MIT + file LICENSE`.
+- NAME-field-s, -t: the first of a list of licences, of a gem and of an old package.json. They end with a quote, so no name goes on.
 
 A name goes on with a dash, an underscore, a plus, the word `with`, or a dot and a number; before a closing quote with a dot and a word of at most 13
 characters. (Elsewhere a dot and a word are the end of a sentence and another one.) Each has a text with its name in it, so that it is tried where that
@@ -24,6 +25,9 @@ IN_WORDS = {"GPL-field-w": "GNU GPL", "LGPL-field-w": "GNU LGPL", "Apache-2.0-fi
 # names that R has for licences
 OF_R = "AGPL-3 Artistic-2.0 BSD_2_clause BSD_3_clause GPL-2 GPL-3 LGPL-2 LGPL-2.1 LGPL-3 MIT".split()
 WITH_FILE = "license: {} + file\n"
+# names of lists of licences
+OF_LISTS = "Apache-2.0 BSD BSD-2-Clause BSD-3-Clause GPL-2.0 GPL-3.0 ISC LGPL-2.1 LGPL-3.0 MIT MPL-2.0".split()
+LISTS = {"-s": 'licenses = ["{}"\n', "-t": 'licenses": [{{"type": "{}"\n'}
 
 
 def begins(name, other):
@@ -60,6 +64,8 @@ def templates():
         yield f"cut-{id}", f"License: {words}{goes_on(words, known)}"
     for name in OF_R:
         yield f"{name}-field-r", WITH_FILE.format(name)
+    for suffix, text in LISTS.items():
+        yield from ((f"{name}-field{suffix}", text.format(name)) for name in OF_LISTS)
 
 
 def main():

@@ -37,8 +37,11 @@ manual](../docs/MANUAL.md#where-templates-come-from).
 
 Each form was found in two unrelated projects. A form is a wording: with the names and versions that
 fill it (`licensed under the terms of NAME version 2`, each kind of field) it is one form, and so is
-each name in its spelling (`scripts/trial/forms.py` counts). What no project is known to have is here
-where it is a guard: it keeps a shorter template from saying what is not so.
+each name in its spelling (`scripts/trial/forms.py` counts). Not so: `Zlib-field-g` was found in
+PySDL2 alone, `no-grant-mention-f` with its other verbs in D-Bus alone; `EPL-1.0-field-g` and
+`EPL-2.0-field-g`, of PyPI's list of classifiers, and `BSD_2_clause-field-r`, of R's licences,
+nowhere. What else no project is known to have is here where it is a guard: it keeps a shorter
+template from saying what is not so.
 """
 SECTIONS = [
     ("text", "Texts", "Whole texts, or as much of them as tells them from others."),
@@ -46,6 +49,8 @@ SECTIONS = [
     ("no-grant", "Words that give no licence", "They keep a sentence from being called a grant."),
     ("mention", "Mentions", "Names in words, in `examples/mentions`."),
 ]
+FIELDS = """Fields of manifests and headers: first those of a name of less than six letters. Forms that a longer name has, and that these were not found to
+have in 88,128 files of 1,394 projects, are left out: `license = ["NAME`, `license": NAME`, `license": [NAME` and `license = [NAME`."""
 # templates that no project is known to have, and what would be said without them
 GUARDED = [(r"(.*)-or-later-notice-m", r"\1-only"), (r"(.*(?<!LGPL-2.0))-or-later-notice-i", r"\1-only"), (r"no-grant-mention-l", "public-domain")]
 # the kinds of tags, and what each describes
@@ -152,18 +157,28 @@ def kinds(seen):
     """A line for each kind of tag."""
     for pattern, title, text in TAGS:
         real = next((it for it in sorted(seen) if re.fullmatch(pattern, it) and len(seen[it]) == 3 and "-field" not in it), None)
-        yield wrapped(f"- `{title}`: {text}." + (f"{place(seen[real])}, `{real}`: {shown(seen[real][2])}" if real else " Found nowhere yet: SPDX's grammar has it."), "  ")
+        yield wrapped(f"- `{title}`: {text}." + (f"{place(seen[real])}, `{real}`: {shown(seen[real][2])}" if real else " Found in none of 82,766 files with tags (Linux and U-Boot among them): SPDX's grammar has it."), "  ")
+
+
+def frames_of_fields():
+    """The ends of the names of the fields that fields.py makes, which names have them, and their texts."""
+    kinds = {"": tags.SHORT_FIELDS, " of six letters": tags.SIX_FIELDS, " of seven letters": tags.MIDDLE_FIELDS, " of more letters": {"": tags.FIELD}}
+    for letters, forms in kinds.items():
+        yield from ((suffix, letters, text) for suffix, text in forms.items() if not letters or text != tags.SHORT_FIELDS.get(suffix))
+    yield "-r", "", fields.WITH_FILE
+    yield from ((suffix, "", text) for suffix, text in fields.LISTS.items())
 
 
 def made_fields(made, seen):
     """A line for each frame of the fields that fields.py makes, and one of those that are cut; then the names of all of them. Of a frame that was found
-    with a longer name alone, which has another template, the example is that of the frame."""
+    with another name alone, which has another template, the example is that of the frame."""
     names_of_made = fields.names()
-    for title, text in [*((f"NAME-field{suffix}", text) for suffix, text in tags.SHORT_FIELDS.items()), ("NAME-field-u", tags.MIDDLE_FIELDS["-u"]), ("NAME-field", tags.FIELD), ("NAME-field-r", fields.WITH_FILE)]:
-        these = {text.format(name) for name in names_of_made + fields.OF_R}
+    for suffix, letters, text in frames_of_fields():
+        title, frames = f"NAME-field{suffix}", {text, tags.SHORT_FIELDS.get(suffix, text)}
+        these = {frame.format(name) for frame in frames for name in names_of_made + fields.OF_R + fields.OF_LISTS}
         alike = [it for it in sorted(seen) if len(seen[it]) == 3 and made.get(it) in these]
         real = seen[alike[0]] if alike else seen[title]
-        yield wrapped(f"- `{title}`: {shown(original_of(text.format('NAME')))}.{place(real)}{f', `{alike[0]}`' if alike else ''}: {shown(real[2])}", "  ")
+        yield wrapped(f"- `{title}`{letters}: {shown(original_of(text.format('NAME')))}.{place(real)}{f', `{alike[0]}`' if alike else ''}: {shown(real[2])}", "  ")
     real = next((it for it in sorted(seen) if re.match("cut-.*-field", it)), None)
     yield wrapped("- `cut-NAME-field`, `-b` ..: each of these where the name goes on, as `MIT-Own`." + (f"{place(seen[real])}, `{real}`: {shown(seen[real][2])}" if real else ""), "  ")
     yield "\nNAME is one of these; those that SPDX publishes and that go on after another one are guards of that:\n"
@@ -188,7 +203,7 @@ def page():
         lines += [f"## {title}\n", wrapped(sentence) + "\n", "\n".join(these + (list(longer_notices()) if kind == "notice" else [])) + "\n"]
     made = dict(fields.templates())
     by_hand = {it: text for it, text in found["field"].items() if it not in made}
-    lines += ["## Fields\n", "Fields of manifests and headers. Of each name there are these:\n", "\n".join(made_fields(made, seen)) + "\n"]
+    lines += ["## Fields\n", wrapped(FIELDS) + "\n", "\n".join(made_fields(made, seen)) + "\n"]
     lines += ["Other fields:\n", "\n".join(item(*it, by_hand, seen) for it in sorted(by_hand.items())) + "\n"]
     lines += ["## Tags\n", "\n".join(kinds(seen)) + "\n", "NAME of an identifier is\n", names("identifier", found, KIND) + "\n"]
     ends = sorted({re.sub("^(expression|cut)-(OR|AND|WITH)-|(-[b-d])?(-dot)?$", "", it) for it in found["expression"] if re.match("expression-", it)})

@@ -3,8 +3,8 @@
 
 Each template goes to OUT/NAME-identifier.template.txt and describes `SPDX-License-Identifier: IDENTIFIER`. With --field it goes
 to OUT/NAME-field.template.txt and describes the field of a manifest or header: `"license": "IDENTIFIER"`, `license = "IDENTIFIER"`,
-`:license: IDENTIFIER`. An identifier of seven letters has six templates, NAME-field, NAME-field-e .., and a shorter one twelve,
-NAME-field, NAME-field-b ..: a file is searched for the longest text of a template, and with one for all forms that would be the word
+`:license: IDENTIFIER`. An identifier of seven letters has six templates, NAME-field, NAME-field-e .., one of six ten, and a shorter one
+thirteen, NAME-field, NAME-field-b ..: a file is searched for the longest text of a template, and with one for all forms that would be the word
 `license`, which is frequent. NAME is the identifier, with `-` for blanks and without parentheses. A file of that name is written anew.
 
 Identifiers come from the command line, from FILE (one on each line; `#` begins a comment), and from the names of the templates in
@@ -35,11 +35,11 @@ def optional(text):
 # a quote, underscores, a colon or an equals sign, the end of a tag of XML, a bracket, a quote
 FIELD = "license " + "".join(map(optional, ['"', "__", ":", "=", ">", "[", '"'])) + "{}\n"
 # The same of an identifier that is not longer than `license`: each form has a text with the identifier in it that is. Of one of seven letters that is
-# the identifier with its quote.
+# the identifier with the mark before it.
 MIDDLE_FIELDS = {
-    "": "license: {}\n",
+    "": "license " + optional('"') + ": {}\n",
     "-e": "license {}\n",
-    "-m": "license: [{}\n",
+    "-m": "license " + "".join(map(optional, ['"', ":", "="])) + "[{}\n",
     "-p": "license = {}\n",
     "-u": FIELD.replace(optional('"') + "{}", '"{}'),
     "-x": "license>{}\n",
@@ -56,14 +56,21 @@ SHORT_FIELDS = {
     "-n": "license: [\"{}\n",
     "-o": "license\": [\"{}\n",
     "-p": "license = {}\n",
+    "-q": "license [{}\n",
     "-x": "license>{}\n",
+}
+# Of one of six letters that is the identifier with the two marks before it.
+SIX_FIELDS = {suffix: text for suffix, text in SHORT_FIELDS.items() if suffix not in ("-d", "-l", "-o")} | {
+    "-b": "license " + optional('"') + ": \"{}\n",
+    "-c": "license " + optional("__") + "= \"{}\n",
+    "-n": "license " + "".join(map(optional, ['"', ":", "="])) + "[\"{}\n",
 }
 
 
 def fields_of(identifier):
     """The ends of the names of the templates of a field, and their texts."""
     longer = len(identifier) - len("license")
-    texts = {"": FIELD} if longer > 0 else MIDDLE_FIELDS if longer == 0 else SHORT_FIELDS
+    texts = {"": FIELD} if longer > 0 else MIDDLE_FIELDS if longer == 0 else SIX_FIELDS if longer == -1 else SHORT_FIELDS
     return [("-field" + letter, text) for letter, text in texts.items()]
 
 

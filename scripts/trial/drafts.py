@@ -1,9 +1,11 @@
 #!/usr/bin/env python3
-"""Writes what drafts of debian/copyright say of each file, and the seconds of the processor: drafts.py FOLDER OUT [--licscan PROGRAM] [--decopy]
+"""Writes what drafts of debian/copyright say of each file, and the seconds of the processor: drafts.py FOLDER OUT [--licscan PROGRAM] [--decopy] [--limit N]
 
 FOLDER is that of packages.py. A draft is made of a copy of each package without its debian/copyright: by scripts/report/debian.py of what licscan
-says of its text files, or by decopy. OUT/licscan.txt and OUT/decopy.txt have a line for each file, its name and a licence, for `score.py --lines`."""
+says of its text files, or by decopy. A package of which decopy takes more than N seconds of the processor is named, and has no draft.
+OUT/licscan.txt and OUT/decopy.txt have a line for each file, its name and a licence, for `score.py --lines`."""
 import argparse
+import functools
 import os
 import resource
 import shutil
@@ -40,10 +42,13 @@ def by_licscan(program, place):
     return subprocess.run(words, cwd=place, input=lines, stdout=subprocess.PIPE, stderr=subprocess.DEVNULL, check=False, text=True, errors="replace").stdout
 
 
-def by_decopy(place):
-    """The draft of decopy, which is told of all files below the folder."""
-    words = ["decopy", "--quiet", "--no-progress", "--mode", "full", "--jobs", "1"]
-    return subprocess.run(words, cwd=place, stdin=subprocess.DEVNULL, stdout=subprocess.PIPE, stderr=subprocess.DEVNULL, check=False, text=True, errors="replace").stdout
+def by_decopy(limit, place):
+    """The draft of decopy, which is told of all files below the folder; none where that takes more seconds of the processor than the limit."""
+    words = ["prlimit", f"--cpu={limit}", "decopy", "--quiet", "--no-progress", "--mode", "full", "--jobs", "1"]
+    done = subprocess.run(words, cwd=place, stdin=subprocess.DEVNULL, stdout=subprocess.PIPE, stderr=subprocess.DEVNULL, check=False, text=True, errors="replace")
+    if done.returncode != 0:
+        print(f"decopy: {os.path.basename(place)}: status {done.returncode}", flush=True)
+    return done.stdout if done.returncode == 0 else ""
 
 
 def write_lines(folder, out, draft):
@@ -71,11 +76,12 @@ def main():
     parser.add_argument("out")
     parser.add_argument("--licscan", metavar="PROGRAM")
     parser.add_argument("--decopy", action="store_true", help="decopy, which is on the path")
+    parser.add_argument("--limit", type=int, metavar="N", default=3600)
     asked = parser.parse_args()
     os.makedirs(asked.out, exist_ok=True)
     program = os.path.abspath(asked.licscan) if asked.licscan else None
     drafts = {"licscan": lambda place: by_licscan(program, place)} if program else {}
-    for name, draft in (drafts | ({"decopy": by_decopy} if asked.decopy else {})).items():
+    for name, draft in (drafts | ({"decopy": functools.partial(by_decopy, asked.limit)} if asked.decopy else {})).items():
         print(f"{name}: {write_lines(asked.folder, os.path.join(asked.out, name + '.txt'), draft):.1f} seconds of the processor")
 
 

@@ -33,14 +33,14 @@ TOOLS = re.compile(r"config\.(guess|sub)|install-sh|ltmain\.sh|missing|depcomp|c
 OTHERS = re.compile("cut-|expression-|.*-identifier(-[b-z])?(-dot)?$|no-grant-|(OR|AND)-field|.*-notice-x$")
 OPTIONAL = r"<<beginOptional>>(?:[^<]|<<beginOptional>>[^<]*<<endOptional>>)*<<endOptional>>"
 # what is before the name, in a form that any name fills
-FRAME = re.compile(rf'((<<var;name="verb".*?>> |licensed |distributed |distribute this file )?under(?:{OPTIONAL}|\s|the |terms of the |either of )+|'
+FRAME = re.compile(rf'((<<var;name="verb".*?>> |licensed |distributed |distribute this file |modify it )?under(?:{OPTIONAL}|\s|the |terms of the |either of )+|'
                    rf'free software.*?under\s+the terms of the |(subject to the terms( and conditions)?|according to the terms) of the |'
                    rf'the terms of (?:{OPTIONAL})?(?=version)|same terms as (?:{OPTIONAL})?|OSI Approved :: |Use of this source code is governed by an? |'
                    rf'the (?=GNU General Public License as published)|subject to version [\d.]+ of the |'
-                   rf'licen[cs]e(?![a-z])(?:-expression: | ?["_:=]*|{OPTIONAL}|\s|=>|\[)*)(?!to )(?=[A-Za-z0-9])', re.IGNORECASE | re.DOTALL)
+                   rf'cc:license rdf:resource="|licen[cs]es?(?![a-z])(?:-expression: | ?["_:=>]*|{{"type": "|{OPTIONAL}|\s|=>|\[)*)(?!to )(?=[A-Za-z0-9])', re.IGNORECASE | re.DOTALL)
 # and what is after it: a version, `or later`, as published by .., what it is called or where its text is
 END = re.compile(r'\s*(<<beginOptional>> ?[,(v].*|<<var;name="(version|later|next)".*|,? version .*|as published .*|(?<=\s)(v\d )?or later|\(>= .*|'
-                 r'(?<=\s)(v\d )?\(L?GPLv\d\)|(?<=\s)v\d|\(the "License"\).*|\. See LICENSE|that can be found .*)?\s*$', re.DOTALL | re.IGNORECASE)
+                 r'(?<=\s)(v\d )?\(L?GPLv\d\)|(?<=\s)v\d|\(the "License"\).*|\. See LICENSE|that can be found .*|\+ file|/?")?\s*$', re.DOTALL | re.IGNORECASE)
 MAX_BYTES = 1_000_000
 MOST_LETTERS = 160
 FILES_OF_A_RUN = 500
