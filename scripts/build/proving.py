@@ -90,7 +90,7 @@ def keeps_proofs(top):
 
 
 class Hearing:
-    """Says when each of so many crates is proved, from what the gate's command says."""
+    """Says when each crate is proved, from what the gate's command says."""
 
     def __init__(self, count):
         self.count, self.proved, self.functions, self.start = count, 0, 0, time.monotonic()
@@ -130,7 +130,7 @@ def workers():
 
 class Proving:
     """Proves the crates of these names and those below them. `when_proved` is called with each crate's name and the seconds that it took.
-    `faults` has, of each crate that failed, its name and what was said of it."""
+    `faults` has, of each crate that failed, its name and what rt said."""
 
     def __init__(self, top, names, log, when_proved=lambda name, seconds: None):
         self.top, self.log, self.when_proved, self.start = top, log, when_proved, time.monotonic()

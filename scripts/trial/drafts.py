@@ -41,7 +41,7 @@ def by_licscan(program, place):
 
 
 def by_decopy(place):
-    """The draft of decopy, which is told of all files below the folder."""
+    """The draft of decopy, of all files below the folder."""
     words = ["decopy", "--quiet", "--no-progress", "--mode", "full", "--jobs", "1"]
     return subprocess.run(words, cwd=place, stdin=subprocess.DEVNULL, stdout=subprocess.PIPE, stderr=subprocess.DEVNULL, check=False, text=True, errors="replace").stdout
 
