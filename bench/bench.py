@@ -33,7 +33,7 @@ FILES_OF_A_CALL = 4_000
 SOURCES = 20_000_000
 MANY_SOURCES = 200_000_000
 MOST_SECONDS = 30
-# about so many bytes of each kind of text in a run
+# about how many bytes of each kind of text are in a run
 KIND = 8_000_000
 
 
@@ -160,7 +160,7 @@ def start(bench):
 
 
 def files_below(folders, most):
-    """Files below these folders that are UTF-8, up to so many bytes in all."""
+    """Files below these folders that are UTF-8, up to this number of bytes in all."""
     found, size = [], 0
     for path in sorted(os.path.join(at, name) for folder in folders for at, _, names in os.walk(folder) for name in names):
         try:

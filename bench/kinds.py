@@ -27,7 +27,7 @@ cent,percent; copyright holder,copyright owner"""
 
 
 def drawn(paths):
-    """Files of at most 200 KB in an order by the seed, so many that they have MOST bytes."""
+    """Files of at most 200 KB in an order by the seed, until they have MOST bytes."""
     paths = sorted(it for it in set(paths) if os.path.isfile(it) and not os.path.islink(it) and 0 < os.path.getsize(it) <= 200_000)
     random.Random(SEED).shuffle(paths)
     size = 0

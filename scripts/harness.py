@@ -9,11 +9,11 @@ PROGRAM = os.path.join(TOP, 'crates', 'licscan', 'out', 'licscan')
 TEMPLATES = os.path.join(TOP, 'examples', 'templates')
 # by what name ./dev runs the trial
 STEP = ''
-# all that a command knows of the machine, where it is not told more
+# the whole environment of a command, if none is handed in
 ENVIRONMENT = {'PATH': '/usr/bin:/bin', 'LC_ALL': 'C'}
-# after so many a run is ended, with status -9
+# how long a run may take before it is ended, with status -9
 SECONDS = 60
-# of a difference so many lines are shown, each to this width
+# how many lines of a difference are shown, each to this width
 LINES, WIDTH = 20, 200
 
 
@@ -127,7 +127,7 @@ class Streams:
 
 
 def run(words, folder=None, given=b'', env=None, seconds=SECONDS, streams=None, at_terminal=False, wait=ended, **how):
-    """Runs a command in a folder, with these bytes as its standard input, and gives what came of it. After so many seconds it is killed.
+    """Runs a command in a folder, with these bytes as its standard input, and gives what came of it. After these seconds it is killed.
 
     What it writes goes to files, so that how fast that is read plays no part. `streams` has a path and its flags for the stream that it takes the
     place of; `how` goes to the process as it is."""
@@ -137,12 +137,12 @@ def run(words, folder=None, given=b'', env=None, seconds=SECONDS, streams=None, 
         own.close_opened()
         timer = threading.Timer(seconds, os.kill, (process.pid, signal.SIGKILL))
         timer.start()
-        told = read_all(own.reader) if at_terminal else b''
+        shown = read_all(own.reader) if at_terminal else b''
         status, used, memory = wait(process.pid)
         timer.cancel()
         process.returncode = os.waitstatus_to_exitcode(status)
         out, err = own.written()
-        return Ran(process.returncode, out, told or err, used.ru_utime + used.ru_stime, memory)
+        return Ran(process.returncode, out, shown or err, used.ru_utime + used.ru_stime, memory)
     finally:
         own.close()
 
@@ -181,7 +181,7 @@ class Tally:
         self.what, self.tried, self.bad = what, 0, 0
 
     def add(self, name, faults, count=1):
-        """Counts so many runs by this name, and says what is wrong with them."""
+        """Counts runs by this name, and says what is wrong with them."""
         faults = list(faults)
         self.tried += count
         if faults:

@@ -4,7 +4,7 @@ what the proofs leave of the cores.
 
 `rt ci` alone lets edits of lower crates take cores from the upper ones that wait to be proved, so the longest chain of crates gets one core.
 Here the chain has all cores that it can use, and of the edits those are tried first whose crate took longest. What is proved and tried is kept
-by rt: the gate itself, which runs after this, does what is left. Where a crate fails, no more edits are tried, and what was said of it comes last."""
+by rt: the gate itself, which runs after this, does what is left. Where a crate fails, no more edits are tried, and what rt said comes last."""
 import os
 import queue
 import shutil
@@ -19,7 +19,7 @@ from proving import Proving, copy_crates, minutes, say
 TOP = os.path.dirname(os.path.dirname(os.path.dirname(os.path.realpath(__file__))))
 # a trial of edits takes up to two of these
 MEMORY_OF_A_CHECK = 3_000_000_000
-# so many bytes of what is said of a crate that failed tell what is wrong
+# how many bytes of what rt says of a crate that failed are shown
 END = 8_000
 
 

@@ -120,7 +120,7 @@ def workers():
 
 class Proving:
     """Proves the crates of these names and those below them. `when_proved` is called with each crate's name and the seconds that it took, and `when_run`
-    with the folder of each run that passed. `faults` has, of each run that failed, the names of its crates and what was said of them."""
+    with the folder of each run that passed. `faults` has, of each run that failed, the names of its crates and what rt said."""
 
     def __init__(self, top, names, log, when_proved=lambda name, seconds: None, when_run=lambda folder: None):
         self.top, self.log, self.when_proved, self.when_run, self.start = top, log, when_proved, when_run, time.monotonic()

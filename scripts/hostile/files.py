@@ -65,7 +65,7 @@ def of_templates():
                        err=b'licscan: templates: cannot be listed\n', as_nobody='rights' in name)
     yield Case(group, 'a folder without rights', SCAN, FOO, lambda it: os.chmod(os.path.join(it, 'T'), 0), status=2, out=b'',
                err=b'licscan: templates: cannot be listed\n', as_nobody=True)
-    yield Case(group, 'a folder that can be listed and not entered', SCAN, FOO, lambda it: os.chmod(os.path.join(it, 'T'), 0o444), given=b'foo bar', status=2, out=b'',
+    yield Case(group, 'a folder that can be listed, and whose files cannot be opened', SCAN, FOO, lambda it: os.chmod(os.path.join(it, 'T'), 0o444), given=b'foo bar', status=2, out=b'',
                err=b'licscan: template A: ' + UNREADABLE, as_nobody=True)
     yield Case(group, 'no folder', SCAN, status=2, out=b'', err=b'licscan: templates: cannot be listed\n')
     yield Case(group, 'the empty name', ['scan', '--templates', ''], status=2, out=b'', err=b'licscan: templates: cannot be listed\n')

@@ -67,7 +67,7 @@ VALUES = 'values of bounded variables'
 
 
 def values(variables, most, size):
-    """Variables of at most so many words with the word `q` between them, on a text of `q` alone: the last ones hold what they can."""
+    """Variables of at most this number of words with the word `q` between them, on a text of `q` alone: the last ones hold what they can."""
     lengths, left = [], size - (variables - 1)
     for _ in range(variables):
         lengths.insert(0, min(most, left))
@@ -155,7 +155,7 @@ LARGE = 'sets of large templates'
 
 
 def set_of(size, count, content):
-    """A set of so many templates of this size: at most three bytes of memory a byte of its files."""
+    """A set of `count` templates of this size: at most three bytes of memory a byte of its files."""
     def writer(number):
         def write(path):
             with open(path, 'wb') as it:

@@ -28,7 +28,7 @@ def of_closed():
 
 
 def of_size():
-    """A file that takes so many bytes and then no more."""
+    """A file that takes k bytes and then no more."""
     group = 'an output that takes k bytes'
     for size in range(len(REPORT) + 1):
         whole = size == len(REPORT)

@@ -6,7 +6,7 @@ from dataclasses import dataclass
 
 @dataclass
 class Entry:
-    """An option, an argument or a command: how it is written, and what is said of it."""
+    """An option, an argument or a command: how it is written, and its text."""
     names: list
     value: str
     text: str

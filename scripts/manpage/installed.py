@@ -21,7 +21,7 @@ FISH = os.path.join(SHARE, "fish/vendor_completions.d/licscan.fish")
 ZSH = os.path.join(SHARE, "zsh/site-functions/_licscan")
 PAGE = os.path.join(SHARE, "man/man1/licscan.1")
 
-# what the shell is told of a value's completion: no file names, and for a folder those of folders
+# what the shell is asked for as a value's completion: no file names, and for a folder those of folders
 TOLD = {"folder": "+o default -o dirnames", "file": "", "none": "+o default"}
 
 
@@ -41,7 +41,7 @@ def not_as_made(program):
 
 
 def completed(*words):
-    """What bash offers for the last of these words, and what it is told of file names."""
+    """What bash offers for the last of these words, and what it is asked for of file names."""
     script = 'compopt() { echo "told $*"; }; source "$1"; shift; COMP_WORDS=("$@"); COMP_CWORD=$(($# - 1)); _licscan; printf "%s\\n" "${COMPREPLY[@]}"'
     lines = said("bash", "-c", script, "bash", BASH, "licscan", *words)[0].split("\n")
     told = " ".join(line.removeprefix("told ") for line in lines if line.startswith("told "))

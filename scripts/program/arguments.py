@@ -20,5 +20,5 @@ FAULTS = [
 
 CASES = [Case(f'the first fault is reported: {args}', SCAN + args, templates(A=b'foo bar', E=b' '), given=b'foo bar', status=2, err=err)
          for args, err in FAULTS]
-CASES += [Case('the first argument that is not UTF-8 is told by its number', SCAN + ['a' * 5000, b'\xff', b'\xc3'], status=2,
+CASES += [Case('the first argument that is not UTF-8 is named by its number', SCAN + ['a' * 5000, b'\xff', b'\xc3'], status=2,
                err=b'licscan: argument 5 is not UTF-8\n')]

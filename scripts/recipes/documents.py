@@ -30,7 +30,7 @@ FILES = {
     'templates/Uses.template.txt': 'permission to use, copy, modify, and/or distribute this software',
     'templates/Unlike.template.txt': 'a <<var;name="n";original="1";match="[a-z]+">>',
 }
-# what git is told of
+# what is added to git
 ADDED = ['FILE', 'LICENSE', 'debian', 'logo.png', 'src']
 # files that recipes write, and that are shown with their output
 WRITTEN = ['found.txt', 'tags.txt']

@@ -1,12 +1,11 @@
 #!/usr/bin/env python3
 """Refuses each request for memory of a built licscan in turn, and reads what it says.
 
-A run in which a request was refused must either say and write what the whole run does, or end with
-status 2, report that memory ran out by a text of the manual, and write and tell nothing else that the whole run does not; each text with a
-code must come. And two thousand matches must
+A run in which a request was refused must either say and write what the whole run does, or end with status 2, report that memory ran out by a
+text of the manual, and write and report nothing else that the whole run does not; each text with a code must come. And two thousand matches must
 take no more requests than one match, but for the growth of the report: giving a match takes no memory. And a text that is a thousand times as
-long must hold hardly more blocks at once: what a template takes where it is entered is given back when it goes on no more. Needs a C
-compiler. Prints each run that breaks this; the last line is 'N runs, M bad', and the status is 1 if M is not 0.
+long must hold hardly more blocks at once: what a template takes is given back when it is done. Needs a C compiler. Prints each run that breaks
+this; the last line is 'N runs, M bad', and the status is 1 if M is not 0.
 """
 import os, re, sys
 
@@ -69,11 +68,11 @@ GROWTH = 20
 # a text without a match, at each token of which one might end; and the most blocks more that a text a thousand times as long holds at once
 NONE = b'z ' * 50
 LONGER = 60
-# after so many seconds a run is stopped
+# how long a run may take
 SECONDS = 20
 # what follows from a template for which memory runs out
 FOLLOWS = b'licscan: --after: no template A'
-# how it is told that memory ran out, and the codes of these texts
+# how lack of memory is reported, and the codes of these texts
 TEXT = re.compile(rb'licscan: (rules: L4: |words: Q4: |templates: B3: |template [^ ]+: (M12 at 0: )?|[^ ]+: (X3: )?)?out of memory')
 CODES = {b'L4', b'Q4', b'B3', b'M12 at 0', b'X3'}
 
@@ -84,7 +83,7 @@ def run(program, folder, library, words, given, n):
 
 
 def requests(program, folder, library, limit, text):
-    """How many matches of a text a run of at most so many writes, how many requests for memory it makes, and how many blocks it holds at once."""
+    """How many matches of a text a run with this limit writes, how many requests for memory it makes, and how many blocks it holds at once."""
     count = os.path.join(folder, 'count')
     words = ['scan', '--all', '--templates', 'V', '--limit', str(limit)]
     ran = harness.run([program, *words], folder, text, {**harness.ENVIRONMENT, 'LD_PRELOAD': library, 'COUNT_IN': count})
@@ -99,16 +98,16 @@ def is_same(ran, whole):
 def is_right(ran, whole):
     if is_same(ran, whole):
         return whole.status >= 0
-    told, known = ran.err.splitlines(), whole.err.splitlines()
-    others = [it for it in told if not TEXT.fullmatch(it)]
+    shown, known = ran.err.splitlines(), whole.err.splitlines()
+    others = [it for it in shown if not TEXT.fullmatch(it)]
     lines = set(whole.out.splitlines())
-    return (ran.status == 2 and len(others) < len(told)
+    return (ran.status == 2 and len(others) < len(shown)
             and all(it in known or it == FOLLOWS for it in others)
             and all(it in lines for it in ran.out.splitlines()))
 
 
 def refuse_each(program, folder, library, words, given, tally):
-    """Refuses the requests of a run one by one, until none changes anything. Gives the codes of the texts that were told."""
+    """Refuses the requests of a run one by one, until none changes anything. Gives the codes of the texts that were reported."""
     whole, codes = run(program, folder, library, words, given, 0), set()
     n, same = 0, 0
     # (a refused request that a library can do without changes nothing: 40 such in a row are the end)
@@ -137,7 +136,7 @@ def main():
         library = harness.preloaded(SOURCE, folder)
         codes = set().union(*(refuse_each(program, folder, library, words, given, tally) for words, given in CASES))
         count_requests(program, folder, library, tally)
-    tally.add('codes', [] if codes >= CODES else [f'no run told {CODES - codes}'], 0)
+    tally.add('codes', [] if codes >= CODES else [f'no run reported {CODES - codes}'], 0)
     return tally.end()
 
 

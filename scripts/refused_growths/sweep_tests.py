@@ -13,7 +13,7 @@ import harness
 from sweep import SECONDS, SOURCE
 
 PROGRAM = os.path.join(harness.TOP, 'crates', 'lic_memory_tests', 'out', 'lic_memory_tests_tests')
-# so many failures of a test are shown
+# how many failures of a test are shown
 SHOWN = 8
 
 

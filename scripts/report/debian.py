@@ -5,7 +5,7 @@ Each file has its texts, notices, tags and fields, or its mentions where it has 
 is the version of it that a LICENSE or COPYING has in the file's folder, or else in one above. Names are Debian's. Years and holders are those of the files' own notices and fields of SPDX, each holder once. The most frequent answer is that of
 `Files: *`; a folder whose files all have another one is one glob, so a file without an answer goes with its folder. Licences end the page: a
 reference to /usr/share/common-licenses, or the text as a file or the folder LICENSES has it, or FIXME. debian/copyright and quilt's .pc are left out,
-and what FILE.license has is said of FILE, too. It is run in the folder of the files. What it writes is to be read: a file's licences may be a choice
+and what FILE.license has counts for FILE, too. It is run in the folder of the files. What it writes is to be read: a file's licences may be a choice
 or a sum, FIXME is written where nothing is known, and `unknown` for a tag that is cut.
 """
 import argparse
@@ -135,7 +135,7 @@ def text_of(match):
 def page(found, name):
     """The whole file, of the matches of each file."""
     answers = {file: licence_of(licences_of(it)) or "FIXME" for file, it in found.items() if any(one.licence != "" for one in it)}
-    # what is in NAME.license is said of NAME
+    # what is in NAME.license counts for NAME
     answers.update({it.removesuffix(".license"): answers[it] for it in list(answers) if it.endswith(".license") and os.path.exists(it.removesuffix(".license"))})
     answers = with_versions(answers)
     texts = {name_of(one.id): one for it in found.values() for one in it if lines.SUFFIX.sub("", one.id) == one.id and one.licence}

@@ -96,7 +96,7 @@ class Match:
 
     @property
     def is_joined(self):
-        """Whether a dot after a tag or field, or three of one mark in it or after it, belong to it. Only the file tells; without it a dot of a tag does."""
+        """Whether a dot after a tag or field, or three of one mark in it or after it, belong to it. Only the file shows it; without it a dot of a tag does."""
         if not (TAG.match(self.id) or WHOLE.match(self.id)) or ("-field" in self.id and self.values):
             return False
         try:

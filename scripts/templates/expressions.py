@@ -26,7 +26,7 @@ import tags
 ENDING = tags.ENDING
 HERE = os.path.dirname(os.path.abspath(__file__))
 TAG = "SPDX-License-Identifier: "
-# a file is searched by an identifier of so many letters
+# a file is searched by an identifier of this length or more
 LONG_IDENTIFIER = 7
 # the tag is optional, so that the end is the longest text, by which a file is searched; without it the colon has no place
 OPTIONAL_TAG = "SPDX<<beginOptional>>-License-Identifier: <<endOptional>>"

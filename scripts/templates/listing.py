@@ -136,7 +136,7 @@ def place(row):
 
 
 def guarded(name):
-    """What would be said of a text without a template that no project is known to have; none of others."""
+    """What would be reported of a text without a template that no project is known to have; none of others."""
     return next((re.sub(pattern, what, name) for pattern, what in GUARDED if re.fullmatch(pattern, name)), None)
 
 

@@ -1,7 +1,7 @@
 #!/usr/bin/env python3
 """Tries random expressions of the grammar of SPDX as tags: random_tags.py PROGRAM [--count N] [--operators N] [--seed N]
 
-Each has up to so many operators, identifiers of the set and others, some with dots, `+`, LicenseRef- and DocumentRef- ones, exceptions,
+Each has up to N operators, identifiers of the set and others, some with dots, `+`, LicenseRef- and DocumentRef- ones, exceptions,
 parentheses at any depth, and operators in either case. Each is to be reported by one line: whole, or by a template that says that it is cut, or
 that a dot follows. With --whole the templates are those of examples/expressions, and none may be cut but one with a dot before a letter, and at
 the end of a file one of more items than they have. Status: 0 if each is as it is to be.
@@ -44,7 +44,7 @@ def identifier(draw):
 
 
 def expression(draw, operators):
-    """An expression of so many operators."""
+    """An expression of this number of operators."""
     if operators == 0:
         found = identifier(draw)
     elif operators == 1 and draw.random() < 0.2:
@@ -83,7 +83,7 @@ class Match(lines.Match):
 
 
 def trial(program, folder, count, operators, seed, whole=False):
-    """The faults of so many tags, and how many are whole and cut; if they are to be whole, those that are cut are faults, too."""
+    """The faults of this number of tags, and how many are whole and cut; if they are to be whole, those that are cut are faults, too."""
     draw, faults, tally = random.Random(seed), [], collections.Counter()
     with tempfile.TemporaryDirectory() as place:
         drawn = {}

@@ -59,7 +59,7 @@ SUFFIX = re.compile("-(identifier|field|notice)(-[b-z])?(-dot)?$|(?<=-mention)-[
 # fields that tags.py does not make: in words, of CPAN, classifiers of Python packages, choices
 BY_HAND = re.compile(r"^Licen[cs]e|perl|[a-z]_[0-9]|=>|OSI Approved| (OR|AND)\b|\w/|>>/|, ['\"]$", re.M)
 
-# sentences, what is said of them by the templates of grants, and by those of mentions where that is nothing
+# sentences, what the templates of grants report of them, and, if that is nothing, those of mentions
 SENTENCES = [
     ("This file is licensed under the MIT License.", ["MIT"], []),
     ("Released under the terms of the GNU GPL v2 or later", ["GPL-2.0-or-later"], []),

@@ -9,7 +9,7 @@ Their variables reach far, so they cost several times what the starter set costs
 
 - expression: the variable `expression`, and `next`, the token that follows.
 - expression-b: the same before a colon, or before one dot or two and a word, with which the next line begins.
-- expression-0-dot, -1 ..: an expression with so many dots in it, then a dot, and no word or mark.
+- expression-0-dot, -1 ..: an expression with that number of dots in it, then a dot, and no word or mark.
 - expression-end-0, -1 ..: at the end of a file; own-expression-end-0 ..: the same of one that begins with LicenseRef-, which may have dots in its names.
 - cut-expression, cut-own-expression: at the end of a file, one of more items.
 """
@@ -64,12 +64,12 @@ UP_TO_DOT = rf"[-_:a-z0-9]{{0,200}}\+?{CLOSE}( {OPERATOR} {OPEN}[-_:a-z0-9]{{1,2
 
 
 def with_dots(count):
-    """The tag of an expression with so many dots, each before a digit, and then a dot."""
+    """The tag of an expression with this number of dots, each before a digit, and then a dot."""
     return TAG + variable("expression", "MIT-1" + ".0" * count, rf"{OPEN}[a-z0-9]{UP_TO_DOT}" + (rf"(\.[0-9]{UP_TO_DOT}){{{count}}}" if count else "")) + "."
 
 
 def at_end(word, first, item, items):
-    """The tag of an expression of so many items after its first word."""
+    """The tag of an expression of this number of items after its first word."""
     return TAG + variable("expression", word + "-Own" * items, f"{OPEN}{first}" + (f"({item}){{{items}}}" if items else ""))
 
 

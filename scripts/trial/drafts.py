@@ -43,7 +43,7 @@ def by_licscan(program, place):
 
 
 def by_decopy(limit, place):
-    """The draft of decopy, which is told of all files below the folder; none where that takes more seconds of the processor than the limit."""
+    """The draft of decopy, of all files below the folder; none where that takes more seconds of the processor than the limit."""
     words = ["prlimit", f"--cpu={limit}", "decopy", "--quiet", "--no-progress", "--mode", "full", "--jobs", "1"]
     done = subprocess.run(words, cwd=place, stdin=subprocess.DEVNULL, stdout=subprocess.PIPE, stderr=subprocess.DEVNULL, check=False, text=True, errors="replace")
     if done.returncode != 0:

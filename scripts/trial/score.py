@@ -93,7 +93,7 @@ def said_in_lines(lines):
 
 
 def at_most(most, stated):
-    """At most so many files of each package."""
+    """At most this number of files of each package."""
     by_package = {}
     for file in sorted(stated):
         by_package.setdefault(file.split("/")[0], []).append(file)
