@@ -198,15 +198,14 @@ impl<'w> Reader<'w> {
         ensures rules { self.new.rules.now ≡ self.old.rules.now }
     {
         let start = self.line_start;
-        let rest = &self.source[start..];
-        let lines = start + lines_end(rest);
-        let line = start + line_end(rest);
+        let lines = start + lines_end(&self.source[start..]);
         if self.take_ascii(lines)? {
             return Ok(());
         }
         if self.take_front()? {
             return Ok(());
         }
+        let line = start + line_end(&self.source[start..]);
         self.take_any_line(line)?;
         Ok(())
     }

@@ -20,8 +20,8 @@ overflow_add-lines c =
 pub overflow_add-line : goal.overflow_add-line
 overflow_add-line c =
     let at = c.args.self.now.line_start in
-    let here = c.deref.result.now in
-    let rest = searched_rest here c.args.self.now.source.items at c.deref.ensures.value in
+    let sources = c.take_front.ensures.source ∙ c.take_ascii.ensures.source in
+    let rest = searched_rest c.deref-2.result.now c.args.self.now.source.items at (c.deref-2.ensures.value ∙ sources) in
     omega (arith, c.line_end.ensures.within, ap length rest, length-drop at c.args.self.now.source.items, c.requires.fits, c.requires.read.within)
 
 pub take_ascii-requires-clause-within : goal.take_ascii-requires-clause-within
@@ -42,8 +42,8 @@ take_any_line-requires-clause-order c =
 pub take_any_line-requires-clause-within : goal.take_any_line-requires-clause-within
 take_any_line-requires-clause-within c =
     let at = c.args.self.now.line_start in
-    let here = c.deref.result.now in
-    let rest = searched_rest here c.args.self.now.source.items at c.deref.ensures.value in
+    let sources = c.take_front.ensures.source ∙ c.take_ascii.ensures.source in
+    let rest = searched_rest c.deref-2.result.now c.args.self.now.source.items at (c.deref-2.ensures.value ∙ sources) in
     omega (
       arith,
       c.line_end.ensures.within,
@@ -68,7 +68,7 @@ take_any_line-requires-clause-line c =
     let starts : there.line_start ≡ at =
     c.in_ok-take_front.ensures.start c.if-branch-2.false ∙ ap (λ (r : Reader). r.line_start) (c.in_ok-take_ascii.ensures.other c.if-branch.false) in
     let sources : there.source.items ≡ source = c.take_front.ensures.source ∙ c.take_ascii.ensures.source in
-    let rest = searched_rest c.deref.result.now source at c.deref.ensures.value in
+    let rest = searched_rest c.deref-2.result.now source at (c.deref-2.ensures.value ∙ c.take_front.ensures.source ∙ c.take_ascii.ensures.source) in
     subst (λ k. IsFirstLine (slice_range there.source.items k (at + n)) (drop (at + n) there.source.items)) (sym starts)
     (subst (λ l. IsFirstLine (slice_range l at (at + n)) (drop (at + n) l)) (sym sources)
     (rest_line source at n (subst (λ l. IsFirstLine (take n l) (drop n l)) rest c.line_end.ensures.line)))
@@ -80,7 +80,7 @@ returns-clause-read c =
     let source = self.source.items in
     let n = c.line_end.result in
     let new = c.take_any_line.new.self in
-    let rest = searched_rest c.deref.result.now source at c.deref.ensures.value in
+    let rest = searched_rest c.deref-2.result.now source at (c.deref-2.ensures.value ∙ c.take_front.ensures.source ∙ c.take_ascii.ensures.source) in
     let first = subst (λ l. IsFirstLine (take n l) (drop n l)) rest c.line_end.ensures.line in
     let within : at + n ≤ length source = omega (arith, c.line_end.ensures.within, ap length rest, length-drop at source, c.requires.read.within) in
     let rules = c.take_front.ensures.rules ∙ c.take_ascii.ensures.rules in
@@ -93,7 +93,7 @@ pub returns-clause-some : goal.returns-clause-some
 returns-clause-some c =
     let self = c.args.self.now in
     let at = self.line_start in
-    let rest = searched_rest c.deref.result.now self.source.items at c.deref.ensures.value in
+    let rest = searched_rest c.deref-2.result.now self.source.items at (c.deref-2.ensures.value ∙ c.take_front.ensures.source ∙ c.take_ascii.ensures.source) in
     omega (
       arith,
       c.line_end.ensures.some (omega (arith, ap length rest, some_rest (drop at self.source.items) c.requires.ended)),
