@@ -11,10 +11,19 @@ use std::alloc::Global;
 use std::rt::Files;
 
 /// The line rules and the list of equivalent words.
-#[derive(Drop)]
 pub(crate) struct Lists {
     pub(crate) rules: Rules,
     pub(crate) words: Words,
+}
+
+// Written out, so that a caller's proof has one call and not the drop of each text.
+impl Drop for Lists {
+    fn drop(self) {
+        let Lists {
+            rules: _rules,
+            words: _words,
+        } = self;
+    }
 }
 
 /// The rules and the list in the files of these names: the profile where the first is none, and no words where the second is.
