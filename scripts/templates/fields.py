@@ -23,7 +23,7 @@ HERE = os.path.dirname(os.path.abspath(__file__))
 CHOICES = ["MIT OR Apache-2.0", "Apache-2.0 OR MIT", "MIT/Apache-2.0", "Apache-2.0/MIT"]
 IN_WORDS = {"GPL-field-w": "GNU GPL", "LGPL-field-w": "GNU LGPL", "Apache-2.0-field-w": "Apache 2.0", "BSD-3-Clause-field-v": "Modified BSD", "BSD-3-Clause-field-w": "New BSD"}
 # names that R has for licences
-OF_R = "AGPL-3 Artistic-2.0 BSD_2_clause BSD_3_clause GPL-2 GPL-3 LGPL-2 LGPL-2.1 LGPL-3 MIT".split()
+OF_R = "AGPL-3 Artistic-2.0 BSD_3_clause GPL-2 GPL-3 LGPL-2 LGPL-2.1 LGPL-3 MIT".split()
 WITH_FILE = "license: {} + file\n"
 # names of lists of licences
 OF_LISTS = "Apache-2.0 BSD BSD-2-Clause BSD-3-Clause GPL-2.0 GPL-3.0 ISC LGPL-2.1 LGPL-3.0 MIT MPL-2.0".split()

@@ -37,11 +37,8 @@ manual](../docs/MANUAL.md#where-templates-come-from).
 
 Each form was found in two unrelated projects. A form is a wording: with the names and versions that
 fill it (`licensed under the terms of NAME version 2`, each kind of field) it is one form, and so is
-each name in its spelling (`scripts/trial/forms.py` counts). Not so: `Zlib-field-g` was found in
-PySDL2 alone, fields of `EPL-1` in Cbc alone, `no-grant-mention-f` with its other verbs in D-Bus
-alone; `EPL-1.0-field-g` and `EPL-2.0-field-g`, of PyPI's list of classifiers, and
-`BSD_2_clause-field-r`, of R's licences, nowhere. What else no project is known to have is here
-where it is a guard: it keeps a shorter template from saying what is not so.
+each name in its spelling (`scripts/trial/forms.py` counts). What no project, or one alone, is known
+to have is here where it is a guard: it keeps a shorter template from saying what is not so.
 """
 SECTIONS = [
     ("text", "Texts", "Whole texts, or as much of them as tells them from others."),
