@@ -46,7 +46,7 @@ def build(top):
     is_apart = keeps_proofs()
     if not is_apart:
         say("this kit keeps no proofs: if it is stopped, it begins anew")
-    if not proving.run(is_apart) or not os.access(f"{to}/{PROGRAM}", os.X_OK):
+    if not proving.run(is_apart) or not is_current(top):
         say(f"the program could not be proved and built (log: crates/{PROGRAM}/out/build.log)")
         return 2
     say(f"proved and built in {minutes(proving.start)}")

@@ -1,8 +1,8 @@
 """Proves crates of this repository by the gate's command, `rt ci`, on copies of them without must-fail edits.
 
-The longest chain of crates that depend on each other decides how long all take. So of the crates whose libraries are proved the one is begun next
-on which the longest chain depends, and two to four are proved side by side: those with the longest chains by several jobs, the others by one each
-where cores lack. That is for a kit whose `rt ci` keeps what it proved for each later run over the same files, so that it is proved once, whether by the
+The longest chain of crates that depend on each other decides how long all take. So of the crates whose libraries are proved the one is begun next on
+which the longest chain depends, and two to four are proved side by side: those with the longest chains by several jobs, the others by one each where
+cores lack. That is for a kit whose `rt ci` keeps what it proved for each later run over the same files, so that it is proved once, whether by the
 first command or by the gate. With another kit all crates are proved in one run."""
 import os
 import re
@@ -119,8 +119,8 @@ def workers():
 
 
 class Proving:
-    """Proves the crates of these names and those below them. `when_proved` is called with each crate's name and the seconds that it took, and `when_run`
-    with the folder of each run that passed. `faults` has, of each run that failed, the names of its crates and what rt said."""
+    """Proves the crates of these names and those below them. `when_proved` is called with each crate's name and the seconds that it took, and
+    `when_run` with the folder of each run that passed. `faults` has, of each run that failed, the names of its crates and what rt said."""
 
     def __init__(self, top, names, log, when_proved=lambda name, seconds: None, when_run=lambda folder: None):
         self.top, self.log, self.when_proved, self.when_run, self.start = top, log, when_proved, when_run, time.monotonic()
@@ -135,7 +135,7 @@ class Proving:
         return [it for it in self.left.difference(names) if self.proved.union(names).issuperset(self.crates[it])]
 
     def one_after_another(self, name):
-        """A crate, and above it those that only wait for the one before. A run reads all that is proved below, so one run for these takes less time."""
+        """A crate, and above it those that only wait for the one before. A run reads all that is proved below, so one for all takes less time."""
         names = [name]
         while len(above := self.ready(names)) == 1:
             names += above

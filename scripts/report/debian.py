@@ -2,11 +2,12 @@
 """Writes a draft of debian/copyright: licscan scan .. | debian.py [--name NAME]
 
 Each file has its texts, notices, tags and fields, or its mentions where it has nothing else; a family is left out beside a version of it, and alone
-is the version of it that a LICENSE or COPYING has in the file's folder, or else in one above. Names are Debian's. Years and holders are those of the files' own notices and fields of SPDX, each holder once. The most frequent answer is that of
-`Files: *`; a folder whose files all have another one is one glob, so a file without an answer goes with its folder. Licences end the page: a
-reference to /usr/share/common-licenses, or the text as a file or the folder LICENSES has it, or FIXME. debian/copyright and quilt's .pc are left out,
-and what FILE.license has counts for FILE, too. It is run in the folder of the files. What it writes is to be read: a file's licences may be a choice
-or a sum, FIXME is written where nothing is known, and `unknown` for a tag that is cut.
+is the version of it that a LICENSE or COPYING has in the file's folder, or else in one above. Names are Debian's. Years and holders are those of the
+files' own notices and fields of SPDX, each holder once. The most frequent answer is that of `Files: *`; a folder whose files all have another one is
+one glob, so a file without an answer goes with its folder. Licences end the page: a reference to /usr/share/common-licenses, or the text as a file or
+the folder LICENSES has it, or FIXME. debian/copyright and quilt's .pc are left out, and what FILE.license has counts for FILE, too. It is run in the
+folder of the files. What it writes is to be read: a file's licences may be a choice or a sum, FIXME is written where nothing is known, and `unknown`
+for a tag that is cut.
 """
 import argparse
 import collections

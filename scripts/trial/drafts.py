@@ -1,5 +1,6 @@
 #!/usr/bin/env python3
-"""Writes what drafts of debian/copyright say of each file, and the seconds of the processor: drafts.py FOLDER OUT [--licscan PROGRAM] [--decopy] [--limit N]
+"""Writes what drafts of debian/copyright say of each file, and the seconds of the processor:
+drafts.py FOLDER OUT [--licscan PROGRAM] [--decopy] [--limit N]
 
 FOLDER is that of packages.py. A draft is made of a copy of each package without its debian/copyright: by scripts/report/debian.py of what licscan
 says of its text files, or by decopy. A package of which decopy takes more than N seconds of the processor is named, and has no draft.
