@@ -178,7 +178,7 @@ def files_below(folders, most):
 
 
 def small_files(bench, sources, count):
-    """So many files of at most 4 KB, the beginnings of these."""
+    """`count` files of at most 4 KB, the beginnings of these."""
     os.makedirs(bench.at('small'))
     paths = [bench.at(f'small/{number}') for number in range(count)]
     for number, path in enumerate(paths):

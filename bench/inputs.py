@@ -128,7 +128,7 @@ def licence(chance):
 
 
 def texts(count=400):
-    """So many licence texts."""
+    """`count` licence texts."""
     chance = random.Random(2)
     return [licence(chance) for _ in range(count)]
 
@@ -176,7 +176,7 @@ def shaped(title, body):
 
 
 def stretches(count):
-    """So many stretches of lines of licence texts, of 100 to 1,500 words each."""
+    """`count` stretches of lines of licence texts, of 100 to 1,500 words each."""
     chance = random.Random(11)
     sources = [lines for lines in (text.split('\n') for text in texts()) if sum(len(line.split()) for line in lines) >= 300]
     while count:
@@ -193,7 +193,7 @@ def stretches(count):
 
 
 def write_templates(folder, count):
-    """So many templates in the shape of published ones: an optional title, a variable of up to 5,000 letters for the copyright notice, and a stretch
+    """`count` templates in the shape of published ones: an optional title, a variable of up to 5,000 letters for the copyright notice, and a stretch
     of a licence text in which each item's number or sign is a variable of up to 20 letters."""
     os.makedirs(folder)
     for at, body in enumerate(stretches(count)):

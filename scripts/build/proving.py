@@ -67,14 +67,14 @@ def run_gate(folder, nice=0, jobs=0, hear=lambda line: None):
 
 def seconds_to_prove(source):
     """The processor seconds that the proof of a crate takes which has this source and no library."""
-    with tempfile.TemporaryDirectory(prefix="licscan-proof-") as room:
-        os.makedirs(f"{room}/.git")
-        os.makedirs(f"{room}/crates/one/src")
+    with tempfile.TemporaryDirectory(prefix="licscan-proof-") as folder:
+        os.makedirs(f"{folder}/.git")
+        os.makedirs(f"{folder}/crates/one/src")
         for path, text in ("HANDLES", "Handles allowed: none.\n"), ("crates.txt", "one:\n"), ("crates/one/src/lib.rt", source):
-            with open(f"{room}/{path}", "w", encoding="utf-8") as file:
+            with open(f"{folder}/{path}", "w", encoding="utf-8") as file:
                 file.write(text)
         before = resource.getrusage(resource.RUSAGE_CHILDREN)
-        run_gate(room)
+        run_gate(folder)
         after = resource.getrusage(resource.RUSAGE_CHILDREN)
     return after.ru_utime + after.ru_stime - before.ru_utime - before.ru_stime
 
@@ -187,11 +187,11 @@ class Proving:
                 self.add(found[1].decode(), functions, time.monotonic() - start)
                 start, functions = time.monotonic(), 0
 
-        with tempfile.TemporaryDirectory(prefix="licscan-proof-") as room:
-            copy_crates(self.top, from_the_ground(self.crates, names), room)
-            status, said = run_gate(room, nice, jobs, hear)
+        with tempfile.TemporaryDirectory(prefix="licscan-proof-") as folder:
+            copy_crates(self.top, from_the_ground(self.crates, names), folder)
+            status, said = run_gate(folder, nice, jobs, hear)
             if not status:
-                self.when_run(room)
+                self.when_run(folder)
             return status, said
 
     def prove(self, names, nice=0, jobs=0):

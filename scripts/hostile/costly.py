@@ -17,7 +17,7 @@ EMPTY = '<<var;name=v;original=;match=>>'
 
 
 def optional_words(first, count):
-    """So many optional words of four letters, no two the same, then the word `end`."""
+    """`count` optional words of four letters, no two the same, then the word `end`."""
     letters = string.ascii_lowercase
     spelled = (letters[first] + letters[k // 676 % 26] + letters[k // 26 % 26] + letters[k % 26] for k in range(count))
     return ''.join(f'<<beginOptional>>{word} <<endOptional>>' for word in spelled) + 'end'

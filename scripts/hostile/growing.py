@@ -51,7 +51,7 @@ def spelled(number):
 
 
 def numbered(form, count):
-    """So many templates of this form, each with a word of its own in place of `{}`."""
+    """`count` templates of this form, each with a word of its own in place of `{}`."""
     return templates(**{f'T{number}': form.replace('{}', spelled(number)) for number in range(count)})
 
 
@@ -185,7 +185,7 @@ ALTERNATIVES = variable('(' + '|'.join(map(spelled, range(26_000))) + ')')
 @series(HEAVY, 'KiB, 26,000 alternatives after two words', 8, 2, f'x y {ALTERNATIVES}', 1)
 @series(HEAVY, 'KiB, 26,000 alternatives between two words', 8, 2, f'x {ALTERNATIVES} y', 1)
 def alternatives(form, count, size):
-    """Each word of the templates stands in the text over and over, never in their order."""
+    """Each word of the templates is in the text over and over, never in their order."""
     unit = ' '.join(['x', spelled(size), spelled(25_999), 'y x y q', *map(spelled, range(count))]) + '\n'
     return nothing(numbered(form, count), unit * (1024 * size // len(unit)))
 
@@ -198,7 +198,7 @@ def many_ways(size):
 
 
 def in_rows(files, words, copies):
-    """So many rows `x a .. a y` are the matches of a template without a variable."""
+    """`copies` rows `x a .. a y` are the matches of a template without a variable."""
     row = 'x ' + 'a ' * words + 'y\n'
     lines = (f'-\tO\t{at * (words + 2)}\t{at * (words + 2) + words + 1}\t{at * len(row)}\t{at * len(row) + len(row) - 1}\n' for at in range(copies))
     return dict(files=files, given=(row * copies).encode(), out=''.join(lines).encode())

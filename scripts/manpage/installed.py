@@ -22,7 +22,7 @@ ZSH = os.path.join(SHARE, "zsh/site-functions/_licscan")
 PAGE = os.path.join(SHARE, "man/man1/licscan.1")
 
 # what the shell is asked for as a value's completion: no file names, and for a folder those of folders
-TOLD = {"folder": "+o default -o dirnames", "file": "", "none": "+o default"}
+WANTED = {"folder": "+o default -o dirnames", "file": "", "none": "+o default"}
 
 
 def said(*words):
@@ -42,10 +42,10 @@ def not_as_made(program):
 
 def completed(*words):
     """What bash offers for the last of these words, and what it is asked for of file names."""
-    script = 'compopt() { echo "told $*"; }; source "$1"; shift; COMP_WORDS=("$@"); COMP_CWORD=$(($# - 1)); _licscan; printf "%s\\n" "${COMPREPLY[@]}"'
+    script = 'compopt() { echo "asked $*"; }; source "$1"; shift; COMP_WORDS=("$@"); COMP_CWORD=$(($# - 1)); _licscan; printf "%s\\n" "${COMPREPLY[@]}"'
     lines = said("bash", "-c", script, "bash", BASH, "licscan", *words)[0].split("\n")
-    told = " ".join(line.removeprefix("told ") for line in lines if line.startswith("told "))
-    return sorted(line for line in lines if line and not line.startswith("told ")), told
+    asked = " ".join(line.removeprefix("asked ") for line in lines if line.startswith("asked "))
+    return sorted(line for line in lines if line and not line.startswith("asked ")), asked
 
 
 def not_completed(whole, pages):
@@ -56,7 +56,7 @@ def not_completed(whole, pages):
             faults.append(f"bash: {command}: other options than those of --help")
         for entry in page.options:
             for words in ([entry.names[-1], ""], [entry.names[-1], "=", "x"]) if entry.takes else ():
-                if completed(command, *words) != ([], TOLD[entry.takes]):
+                if completed(command, *words) != ([], WANTED[entry.takes]):
                     faults.append(f"bash: {command} {' '.join(words)}: not completed as {entry.value}")
         if completed(command, "--", "-") != ([], ""):
             faults.append(f"bash: {command}: options after --")
@@ -80,7 +80,7 @@ def not_on_the_page(pages):
 
 def not_read_by_shells():
     shells = [(shell, path) for shell, path in (("bash", BASH), ("zsh", ZSH), ("fish", FISH)) if shutil.which(shell)]
-    return [f"{shell}: {told}" for shell, path in shells if (told := said(shell, "-n", path)[0])]
+    return [f"{shell}: {errors}" for shell, path in shells if (errors := said(shell, "-n", path)[0])]
 
 
 def not_installed(program):

@@ -75,26 +75,26 @@ PATTERNS = [
 ]
 BEFORE = 'x <<var;name="n";original="o";match="'
 
-# a template whose fronts are templates, but for those that end inside the rule; and what the fronts weigh
+# a template whose beginnings are templates, but for those that end inside the rule; and what they weigh
 WHOLE = 'name of <<var;name="n";original="x";match=".+">> nor'
 WEIGHTS = [1, 2, 3, 4, 5, 6, 7, 8, 8, 9, 10, 11] + [None] * 35 + [9, 10, 11, 12, 13]
 
 BEGIN, END = '<<beginOptional>>', '<<endOptional>>'
 
 
-def of_fronts():
-    yield of_fault('a front of a template', '', 'M10 at 0: no letter in it')
+def of_beginnings():
+    yield of_fault('the beginning of a template', '', 'M10 at 0: no letter in it')
     for end, weight in enumerate(WEIGHTS, 1):
         if weight is None:
-            yield of_fault(f'a front of {end} bytes', WHOLE[:end], 'M1 at 8: rule not closed')
+            yield of_fault(f'a beginning of {end} bytes', WHOLE[:end], 'M1 at 8: rule not closed')
         else:
-            yield of_weight(f'a front of {end} bytes', WHOLE[:end], weight)
+            yield of_weight(f'a beginning of {end} bytes', WHOLE[:end], weight)
 
 
 CASES = [
     *(of_fault('markup', *row) for row in MARKUP),
     *(of_fault('a pattern', f'{BEFORE}{pattern}">>', f'M7 at 37: {fault}') for pattern, fault in PATTERNS),
-    *of_fronts(),
+    *of_beginnings(),
     of_weight('64 groups', f'{BEFORE}{"(" * 64}a{")" * 64}">>', 3, is_described=False),
     of_weight('64 optional parts', BEGIN * 64 + 'a' + END * 64, 1),
     of_fault('65 optional parts', BEGIN * 65 + 'a' + END * 65, 'M8 at 1088: deeper than 64'),

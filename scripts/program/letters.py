@@ -26,7 +26,7 @@ FAMILIES = [
     ('a\u2014\u2014b', 'a 0-1, - 1-7, b 7-8, '),
     ('a\u201C\u201Cb', "a 0-1, ' 1-7, b 7-8, "),
 ]
-# at the front of a line, without any lead: a sign that is no bullet, and three that are items
+# at the start of a line, without any lead: a sign that is no bullet, and three that are items
 ITEMS = [('* foo', '* 0-1, foo 2-5, '), ('\u2022 foo', 'foo 4-7, '), ('\u2014 foo', 'foo 4-7, '), ('+ foo', 'foo 2-5, ')]
 
 

@@ -7,10 +7,10 @@ UNLISTED = b'licscan: templates: cannot be listed\n'
 
 LEFT_OUT = {**templates(A=b'foo bar', E=b' ', L=b'\xFF' * 1_048_577, U=b'foo \xFF'),
             'T/.template.txt': b' ', 'T/notes.txt': b' ', 'T/D\n.template.txt': None}
-TOLD = (b'licscan: template D\\n: cannot be read\n'
-        b'licscan: template E: M10 at 0: no letter in it\n'
-        b'licscan: template L: M11 at 0: more than 1048576 bytes\n'
-        b'licscan: template U: not UTF-8 at byte 4\n')
+REPORTED = (b'licscan: template D\\n: cannot be read\n'
+            b'licscan: template E: M10 at 0: no letter in it\n'
+            b'licscan: template L: M11 at 0: more than 1048576 bytes\n'
+            b'licscan: template U: not UTF-8 at byte 4\n')
 
 INPUTS = {**templates(A=b'foo bar'), 'bytes.txt': b'foo bar \xFF', 'good.txt': b'foo bar'}
 
@@ -22,7 +22,7 @@ FAULTS = (b'licscan: template P1: M3 at 2: optional not ended\n'
           b'licscan: template P4: M6 at 8: field without =\n')
 
 CASES = [
-    Case('a refused template is reported and left out', ALL, LEFT_OUT, given=b'foo bar', status=2, out=b'-\tA\t0\t1\t0\t7\n', err=TOLD),
+    Case('a refused template is reported and left out', ALL, LEFT_OUT, given=b'foo bar', status=2, out=b'-\tA\t0\t1\t0\t7\n', err=REPORTED),
     Case('a folder may be empty', ALL, {'T': None}, given=b'foo bar', status=1),
     Case('a missing folder is reported', ALL, given=b'foo bar', status=2, err=UNLISTED),
     Case('a file that cannot be read is reported and the rest go on', [*ALL, 'bytes.txt', 'none\t.txt', 'T', 'good.txt'], INPUTS, status=2,

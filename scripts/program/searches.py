@@ -19,7 +19,7 @@ ROWS = [
     # more templates than are noted with a token
     (['a', 'a b', 'A b c', 'a <<var;name="v";original="x";match=".{0,9}">>', 'a b c d', 'b', 'a'], 'a b c d',
      '0-0-0 0-0-3 0-0-6 0-1-1 0-1-3 0-2-2 0-2-3 0-3-3 0-3-4 1-1-5 '),
-    # a word and then more; a mark; one word that is the whole template; a variable; an optional word in front
+    # a word and then more; a mark; one word that is the whole template; a variable; an optional word first
     *((['foo bar', '[x] foo', 'foo', '<<var;name="w";original="bar";match="[a-z]{3}">>!', '<<beginOptional>>The <<endOptional>>foo.bar'], given, shown)
       for given, shown in [
           ('foo bar', '0-0-2 0-1-0 '),
