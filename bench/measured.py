@@ -2,7 +2,7 @@
 """Runs a command and prints its seconds, its greatest memory in kilobytes, its status, and the processor's seconds: measured.py COMMAND..
 
 A process of its own, since a child begins with the greatest memory of the process that made it: that of bench.py, which has read its inputs, would
-stand for the program's. What the command writes goes nowhere; what it writes to standard error is passed on.
+be taken for the program's. What the command writes goes nowhere; what it writes to standard error is passed on.
 """
 import os, subprocess, sys, time
 

@@ -55,7 +55,7 @@ NO_FILES = {
 
 
 def of_templates():
-    """What may stand in a folder of templates, or in its place."""
+    """What may be in a folder of templates, or in its place."""
     group = 'template folders'
     for name, make in {**NO_FILES, 'a pipe': fifo, 'a link to /dev/zero': link_to('/dev/zero'), 'a link to a terminal': link_to('/dev/tty')}.items():
         yield Case(group, f'{name} for a template', ALL, {**FOO, 'T/N.template.txt': make}, given=b'foo bar', status=2, out=b'-' + FOUND,
@@ -103,7 +103,7 @@ def of_names():
 
 
 def of_inputs():
-    """What may stand in the place of an input."""
+    """What may be in the place of an input."""
     group = 'inputs that are no files'
     for name, make in NO_FILES.items():
         if name != 'a link to a folder':

@@ -29,7 +29,7 @@ ROWS = [
     ]),
     # a semicolon in a value without quotes
     (templates(S=b'x <<var;name="n";original="o";match=a\\;b>>'), [(b'x a;b', b'-\tS\t0\t3\t0\t5\n')]),
-    # a list item of a template is left out as one of a text is; a variable may stand for one
+    # a list item of a template is left out as one of a text is; a variable may match one
     (templates(T=b'<<beginOptional>>1. <<endOptional>>foo'), [
         (b'1. foo\n', b'-\tT\t0\t0\t3\t6\n'),
         (b'foo', b'-\tT\t0\t0\t0\t3\n'),

@@ -16,7 +16,7 @@ ROWS = [
     # two ways to match the longest range give it once
     ([OF], 'x of y of z', '0-2-0 0-3-0 0-4-0 1-4-0 2-4-0 '),
     (['y', OF], 'x of y', '0-2-1 2-2-0 '),
-    # more templates than are noted with a token
+    # more templates than are kept with a token
     (['a', 'a b', 'A b c', 'a <<var;name="v";original="x";match=".{0,9}">>', 'a b c d', 'b', 'a'], 'a b c d',
      '0-0-0 0-0-3 0-0-6 0-1-1 0-1-3 0-2-2 0-2-3 0-3-3 0-3-4 1-1-5 '),
     # a word and then more; a mark; one word that is the whole template; a variable; an optional word first

@@ -1,4 +1,4 @@
-"""Cases in short form, and the lines of output that they stand for."""
+"""Cases in short form, and the lines of output that they mean."""
 import re
 
 from harness import Case, templates
@@ -30,7 +30,7 @@ def joined(rows):
 
 
 def folder_of(texts):
-    """The files of a folder of templates, which are numbered as they stand here; the folder alone where there is none."""
+    """The files of a folder of templates, which are numbered in this order; the folder alone where there is none."""
     return templates(**{str(k): text.encode() for k, text in enumerate(texts)}) or {'T': None}
 
 

@@ -1,4 +1,4 @@
-"""What variables stand for in long texts, and where the same text could be read in very many ways."""
+"""Values of variables in long texts, and where the same text could be read in very many ways."""
 from harness import Case, templates
 
 SCAN = ['scan', '--templates', 'T']

@@ -29,7 +29,7 @@ EVERY = [
 
 CASES = [
     *(Case(f'each outer match is reported with its variables: {given}', SCAN, files, given=given, out=out) for files, given, out in OUTER),
-    Case('a value has its bytes as they stand', SCAN, NAME_OF, given=b'name of X\xFF nor', out=b'-\tN\t0\t3\t0\t14\n\tn\t8\t10\tX\xFF\n'),
+    Case('a value has its bytes unchanged', SCAN, NAME_OF, given=b'name of X\xFF nor', out=b'-\tN\t0\t3\t0\t14\n\tn\t8\t10\tX\xFF\n'),
     Case('a match of another template may hold one', SCAN, NESTED, given=b'x foo bar foo bar', out=b'-\tB\t0\t2\t0\t9\n-\tA\t3\t4\t10\t17\n'),
     Case('with --all both are reported', ALL, NESTED, given=b'x foo bar foo bar',
          out=b'-\tB\t0\t2\t0\t9\n-\tA\t1\t2\t2\t9\n-\tA\t3\t4\t10\t17\n'),

@@ -1,4 +1,4 @@
-"""Copyright notices in a file's text: years and holders, as they stand in its lines."""
+"""Copyright notices in a file's text: years and holders, as its lines have them."""
 import re
 
 MAX_BYTES = 1_000_000

@@ -2,7 +2,7 @@
 """Writes an SPDX 2.3 document of files: licscan scan .. | spdx.py --files LIST [--json] NAME
 
 LIST has the names of the files with a zero byte after each, as `git ls-files -z` writes them: a file without a match is in the document too. Each file
-has its SHA-1 checksum, the licences that stand in it (its texts, notices, tags and fields, or its mentions where it has nothing else), and the notices of
+has its SHA-1 checksum, the licences that are found in it (its texts, notices, tags and fields, or its mentions where it has nothing else), and the notices of
 its lines. A licence of one's own has the text of LICENSES/NAME.txt. What is concluded is left open: NOASSERTION. SOURCE_DATE_EPOCH sets the date. It is run in the folder of the files.
 """
 import argparse
@@ -27,7 +27,7 @@ def listed(name):
 
 
 def in_file(names):
-    """The identifiers that stand in a file: those of expressions, each by itself."""
+    """The identifiers that are in a file: those of expressions, each by itself."""
     found = set()
     for name in names:
         without = re.sub(r" with [^\s()/]+", "", name, flags=re.IGNORECASE)

@@ -11,7 +11,7 @@ Identifiers come from the command line, from FILE (one on each line; `#` begins 
 DIR: `tags.py --folder license-list-data/template OUT` makes a tag for each licence that is published. An expression is one
 identifier, so it is given in quotes: `tags.py OUT 'Apache-2.0 WITH LLVM-exception'`.
 
-A tag is found wherever its tokens stand. The template of `MIT` is also found in `SPDX-License-Identifier: MIT OR ISC` and in that of
+A tag is found wherever its tokens are. The template of `MIT` is also found in `SPDX-License-Identifier: MIT OR ISC` and in that of
 `MIT-0`. Where the longer one has a template too, only the longer one is reported: give each expression and each longer
 identifier that your files hold.
 
