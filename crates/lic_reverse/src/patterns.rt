@@ -19,6 +19,7 @@ use lic_ere::Ere;
 use lic_spans::PlaceSpan;
 use lic_view::{Keep, Stop, View, kept, tokens_have_texts};
 use std::alloc::Global;
+use std::mem;
 
 /// The places from which a tidy word of the pattern leads to those of the spans.
 pub(crate) fn over_pattern(
@@ -43,7 +44,8 @@ pub(crate) fn over_pattern(
     let mut found = over(alloc, view, keep, ere, ways)?;
     // a tidy word begins with no blank
     found.nothing.append(&mut found.letter)?;
-    Ok(kept(alloc, view, keep, found.nothing)?)
+    let places = mem::replace(&mut found.nothing, Vec::new(alloc));
+    Ok(kept(alloc, view, keep, places)?)
 }
 
 // The ways from which a word of the pattern leads to these.

@@ -15,6 +15,7 @@ use crate::ways::reached::Reached;
 use lic_spans::PlaceSpan;
 use lic_view::{Keep, Stop, View, kept, over_text, tokens_have_texts};
 use std::alloc::Global;
+use std::mem;
 
 /// The places from which up to `count` copies of a text lead to those of the spans: each time on from the places that are new.
 pub fn over_copies(
@@ -37,8 +38,8 @@ pub fn over_copies(
             return places_of(alloc, view, keep, reached);
         }
         let next = over_text(alloc, view, keep, text, front)?;
-        let added = reached.add(alloc, view, keep, ways_of(alloc, next))?;
-        front = added.nothing;
+        let mut added = reached.add(alloc, view, keep, ways_of(alloc, next))?;
+        front = mem::replace(&mut added.nothing, Vec::new(alloc));
     }
     places_of(alloc, view, keep, reached)
 }
@@ -66,6 +67,7 @@ fn places_of(
     requires { ArePlaced view.now (reached_of reached nothing) }
     ensures { IfOk result (λ found. Keeps keep (reached_of reached nothing) found.items) }
 {
-    let ways = reached.into_ways()?;
-    Ok(kept(alloc, view, keep, ways.nothing)?)
+    let mut ways = reached.into_ways()?;
+    let places = mem::replace(&mut ways.nothing, Vec::new(alloc));
+    Ok(kept(alloc, view, keep, places)?)
 }

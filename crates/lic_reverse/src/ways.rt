@@ -11,9 +11,10 @@ pub(crate) mod reached;
 use lic_spans::PlaceSpan;
 use lic_view::{Keep, Stop, View, are_same, fresh_spans, kept, tokens_have_texts};
 use std::alloc::{AllocError, Global};
+use std::mem;
 
 /// The places to which going back over a pattern has led, by what was taken last.
-#[derive(Debug, Drop)]
+#[derive(Debug)]
 pub(crate) struct Ways {
     /// Nothing yet.
     pub(crate) nothing: Vec<PlaceSpan>,
@@ -21,6 +22,17 @@ pub(crate) struct Ways {
     pub(crate) letter: Vec<PlaceSpan>,
     /// A blank, before which a word has a letter.
     pub(crate) blank: Vec<PlaceSpan>,
+}
+
+// Written out, so that a caller's proof has one call and not the drop of each list.
+impl Drop for Ways {
+    fn drop(self) {
+        let Ways {
+            nothing: _nothing,
+            letter: _letter,
+            blank: _blank,
+        } = self;
+    }
 }
 
 impl Ways {
@@ -81,15 +93,18 @@ impl Ways {
     }
 
     /// Each place once with each of its last tokens that is kept.
-    pub(crate) fn kept(self, alloc: Global, view: &View<'_>, keep: Keep) -> Result<Ways, Stop>
+    pub(crate) fn kept(mut self, alloc: Global, view: &View<'_>, keep: Keep) -> Result<Ways, Stop>
         requires { AreWays view.now self }
         ensures { IfOk result (λ kept. IsTidyBack keep view.now (λ w. w ≡ []) (spans_of self) (spans_of kept)) }
     {
         tokens_have_texts(view);
+        let nothing = mem::replace(&mut self.nothing, Vec::new(alloc));
+        let letter = mem::replace(&mut self.letter, Vec::new(alloc));
+        let blank = mem::replace(&mut self.blank, Vec::new(alloc));
         Ok(Ways {
-            nothing: kept(alloc, view, keep, self.nothing)?,
-            letter: kept(alloc, view, keep, self.letter)?,
-            blank: kept(alloc, view, keep, self.blank)?,
+            nothing: kept(alloc, view, keep, nothing)?,
+            letter: kept(alloc, view, keep, letter)?,
+            blank: kept(alloc, view, keep, blank)?,
         })
     }
 

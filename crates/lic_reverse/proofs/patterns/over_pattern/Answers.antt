@@ -11,10 +11,10 @@ use Rattle.lic_view.proofs.Back.{back-keeps}
 use Rattle.lic_reverse.proofs.EmptyWords.{alone-back}
 use Rattle.lic_reverse.proofs.TidyPassing.{tidy-answer}
 use Rattle.lic_reverse.proofs.patterns.over_pattern.Goals as goal
-use Rattle.lic_reverse.proofs.patterns.over_pattern.Goals.{In_ok-append}
+use Rattle.lic_reverse.proofs.patterns.over_pattern.Goals.{After-replace-places}
 
 -- the places that are not after a blank of the word
-answer : (c : In_ok-append) → IsBack c.args.keep c.args.view.now (λ w. Language (tree_words (tree_of c.args.ere.now)) w × IsTidy w) c.args.spans.items c.append.new.self.items
+answer : (c : After-replace-places) → IsBack c.args.keep c.args.view.now (λ w. Language (tree_words (tree_of c.args.ere.now)) w × IsTidy w) c.args.spans.items c.append.new.self.items
 answer c =
     let begin : Ways = record { nothing = c.args.spans; letter = c.new.result; blank = c.new-2.result } in
     tidy-answer c.args.keep c.args.view.now (Language (tree_words (tree_of c.args.ere.now))) c.args.spans.items c.append.new.self.items (spans_of begin) (spans_of c.in_ok-found.found)
@@ -26,7 +26,7 @@ returns-then-has_empty_word_alone c =
     c.args.spans.items c.requires.placed
 
 pub kept-requires : goal.kept-requires
-kept-requires c = let back = answer c in back.placed
+kept-requires c = let back = answer c in rw c.replace-places.ensures.value back.placed
 
 pub returns : goal.returns
 returns c =
@@ -35,4 +35,4 @@ returns c =
     c.append.new.self.items c.in_ok-kept.field-0.items c.tokens_have_texts.ensures
     (tidy-answer c.args.keep c.args.view.now (Language (tree_words (tree_of c.args.ere.now))) c.args.spans.items c.append.new.self.items (spans_of begin) (spans_of c.in_ok-found.found)
     refl c.new.ensures.items c.new-2.ensures.items c.in_ok-append.ensures.items c.in_ok-found.ensures)
-    c.in_ok-kept.ensures
+    (rw c.replace-places.ensures.value at c.in_ok-kept.ensures)

@@ -20,9 +20,9 @@ loop-init c = record {
 
 pub loop-preserved : goal.loop-preserved
 loop-preserved c = record {
-  reached = reached-added c.args.keep c.args.view.now (Language (letters (chars c.args.text.now))) c.args.spans.items c.loop.front.items c.in_ok-next.next.items
+  reached = rw c.replace-front.ensures.value (reached-added c.args.keep c.args.view.now (Language (letters (chars c.args.text.now))) c.args.spans.items c.loop.front.items c.in_ok-next.next.items
       (reached_of c.loop.reached) (spans_of c.ways_of-in-loop.result) (reached_of c.add.new.self) (spans_of c.in_ok-added.added) c.loop.counter
-      c.ways_of-in-loop.ensures.nothing c.loop.invariant.reached c.in_ok-next.ensures c.in_ok-added.ensures;
+      c.ways_of-in-loop.ensures.nothing c.loop.invariant.reached c.in_ok-next.ensures c.in_ok-added.ensures);
   placed = c.in_ok-added.ensures.back.placed;
 }
 
