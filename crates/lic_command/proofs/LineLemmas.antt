@@ -41,7 +41,7 @@ written_more {in_old} {in_mid} {in_new} {old} {mid} {new} {before} {after} {refu
     (sym (map_more (λ name. name.now) names k d within))
     (one_more (get_or names k d).now answer written read more one)
 
--- the work stops after so many files
+-- the work stops after `k` files
 pub begun : {in_old in_new : Input} {old new : Option (List ℕ)} {written : Written} {refused : List (List ℕ)} (r : Result Written Stop) (work : Work)
     (names : List (Bor (List ℕ))) (k : ℕ)
     → AreWritten work in_old old (map (λ name. name.now) (take k names)) refused in_new new written

@@ -68,7 +68,7 @@ pub data AreWritten (work : Work) (in_old : Input) (old : Option (List ℕ))
       → HasWritten work name in_mid in_new mid new answer → IsWithOneMore before answer after
       → AreWritten work in_old old (names ++ name ∷ []) (refused ++ refused_by name answer) in_new new after
 
--- what was read and written about so many of the files with these names, from the first, one after another
+-- what was read and written about the first of the files with these names, as many as were begun, one after another
 abbrev pub AreBegun : Work → Input → Option (List ℕ) → List (List ℕ) → Input → Option (List ℕ) → Type 0
 AreBegun work in_old old names in_new new =
     (count : ℕ) × (refused : List (List ℕ)) × (written : Written) × AreWritten work in_old old (take count names) refused in_new new written

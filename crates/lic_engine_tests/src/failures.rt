@@ -1,4 +1,4 @@
-//! Calls of the engine of whose reads one fails, or whose writer has room for a beginning of what is written.
+//! Calls of the engine of whose reads one fails, or whose writer takes only a beginning of what is written.
 
 use lic_engine::{Memory, RunFault, check, run, run_tokens};
 use lic_find::Ask;
@@ -180,20 +180,20 @@ fn answer_of(
     }
 }
 
-/// What a call answers, whether its writer has all that it has room for, and how often it failed.
+/// What a call answers, whether its writer has all that it takes, and how often it failed.
 type Outcome = (Result<bool, RunFault>, bool, u64);
 
-/// Makes a call over these templates. The read of this number fails, and the writer has room for this beginning.
+/// Makes a call over these templates. The read of this number fails, and the writer takes this beginning.
 fn outcome_over(
     alloc: Global,
     case: &Case,
     set: &Set,
     lists: &Lists,
     fails_at: usize,
-    room: &'static [u8],
+    taken: &'static [u8],
 ) -> Outcome {
     let mut input = Pieces::failing(case.input, fails_at);
-    let mut out = Awaited::of(room);
+    let mut out = Awaited::of(taken);
     let answer = answer_of(alloc, &case.call, set, lists, &mut input, &mut out);
     (answer, out.is_whole(), out.failures())
 }
@@ -203,11 +203,11 @@ fn outcome_of(
     alloc: Global,
     case: &Case,
     fails_at: usize,
-    room: &'static [u8],
+    taken: &'static [u8],
 ) -> Result<Outcome, Fail> {
     let lists = profile(alloc);
     let set = set_of(alloc, case.templates, &lists)?;
-    Ok(outcome_over(alloc, case, &set, &lists, fails_at, room))
+    Ok(outcome_over(alloc, case, &set, &lists, fails_at, taken))
 }
 
 /// Fails the test where a call comes to something else than what is wanted.
@@ -235,21 +235,21 @@ fn a_failed_read_writes_nothing(rt: HostRuntime) -> Result<(), Fail> {
     Ok(())
 }
 
-/// Makes a call with room for each beginning of what it writes, and for all of it.
+/// Makes a call with a writer that takes each beginning of what is written, and all of it.
 fn fail_writes(rt: &impl Abort, alloc: Global, case: &Case) -> Result<(), Fail> {
     let all = case.report.len();
-    for room in 0..all {
-        let outcome = outcome_of(alloc, case, 0, &case.report[..room])?;
+    for len in 0..all {
+        let outcome = outcome_of(alloc, case, 0, &case.report[..len])?;
         assert_outcome(
             rt,
             outcome,
             (Err(RunFault::Write), true, 1),
-            "with room for",
-            room,
+            "a writer of",
+            len,
         );
     }
     let outcome = outcome_of(alloc, case, 0, case.report)?;
-    assert_outcome(rt, outcome, (Ok(true), true, 0), "with room for all", all);
+    assert_outcome(rt, outcome, (Ok(true), true, 0), "a writer of all", all);
     Ok(())
 }
 

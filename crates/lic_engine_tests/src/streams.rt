@@ -132,7 +132,7 @@ fn write_twice(
     (failed, failures, again, sink.failures())
 }
 
-/// What is taken where the call after so many fails: a byte for each call before it, and then all.
+/// What is taken if the call after `before` others fails: a byte for each call before it, and then all.
 fn wanted_after(alloc: Global, before: usize) -> Result<Vec<u8>, AllocError> {
     let mut wanted = TEXT.get(..before).unwrap_or(b"").to_vec(alloc)?;
     wanted.extend_from_slice(TEXT)?;
@@ -161,7 +161,7 @@ fn try_write(
     Ok(())
 }
 
-/// Fails the call after so many, by each error and by taking nothing.
+/// Fails the call after `before` others, by each error and by taking nothing.
 fn try_writes(rt: &impl Abort, alloc: Global, before: usize) -> Result<(), Fail> {
     for kind in KINDS {
         try_write(rt, alloc, Some(*kind), before)?;

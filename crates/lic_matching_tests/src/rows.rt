@@ -125,7 +125,7 @@ fn is_seen(row: &[u64], b: usize) -> bool {
     (is_zero(row) != is_there) & is_before & !is_after
 }
 
-/// Shifts a row of so many words below a limit.
+/// Shifts a row of `words` words below a limit.
 fn try_shift(rt: &impl Abort, alloc: Global, words: usize, limit: usize) -> Result<(), AllocError> {
     assert_eq!(rt;
         wrong_shifts(alloc, words, limit)?,
@@ -135,7 +135,7 @@ fn try_shift(rt: &impl Abort, alloc: Global, words: usize, limit: usize) -> Resu
     Ok(())
 }
 
-/// Looks at a row of so many words, of which one bit is set.
+/// Looks at a row of `words` words, of which one bit is set.
 fn try_bit(rt: &impl Abort, alloc: Global, words: usize, b: usize) -> Result<(), AllocError> {
     let row = single(alloc, words, b)?;
     assert!(rt; is_seen(&row, b), "bit {b} of {words} words");

@@ -21,16 +21,16 @@ const SIGN: usize = 1 << 62;
 
 /// Gives the sign, and says whether it was refused.
 fn sign(alloc: Global) -> bool {
-    let room: Result<Vec<u8>, AllocError> = Vec::with_capacity(alloc, SIGN);
-    room.is_err()
+    let asked: Result<Vec<u8>, AllocError> = Vec::with_capacity(alloc, SIGN);
+    asked.is_err()
 }
 
 /// By this one request the script sees that it counts what is asked for between two signs.
 #[test]
 fn a_request_between_signs_is_counted(rt: HostRuntime) {
     let is_begun = sign(rt.alloc());
-    let room: Result<Vec<u8>, AllocError> = Vec::with_capacity(rt.alloc(), 64);
-    drop(room);
+    let asked: Result<Vec<u8>, AllocError> = Vec::with_capacity(rt.alloc(), 64);
+    drop(asked);
     let is_ended = sign(rt.alloc());
     assert!(rt; is_begun & is_ended);
 }
@@ -71,7 +71,7 @@ const CASES: &[Case] = &[
     },
 ];
 
-/// What room was made for.
+/// What memory was taken for.
 #[derive(Drop)]
 struct Machines<'a> {
     run: Run<'a>,
@@ -280,7 +280,7 @@ fn moves_words() -> bool {
 /// Whether a row of bits does as it should; it has as many as `other`.
 fn moves_bits(row: &mut Bits, other: &Bits) -> bool
     requires same { length row.old ≡ length other.now }
-    requires room { 70 ≤ length row.old }
+    requires long { 70 ≤ length row.old }
 {
     row.put(0, true);
     row.move_up(0, 70, false);
@@ -313,7 +313,7 @@ fn rows_of(rt: &impl Abort, alloc: Global) -> (Bits, Bits) {
 /// Whether words and bits are moved rightly between two signs.
 fn moves_between(alloc: Global, row: &mut Bits, other: &Bits) -> bool
     requires same { length row.old ≡ length other.now }
-    requires room { 70 ≤ length row.old }
+    requires long { 70 ≤ length row.old }
 {
     let is_begun = sign(alloc);
     let is_right = moves_words() & moves_bits(row, other);

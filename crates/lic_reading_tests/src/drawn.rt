@@ -22,7 +22,7 @@ fn drawn_fragment<'f>(fragments: &[&'f [u8]], state: u64) -> &'f [u8] {
     }
 }
 
-/// Adds so many of these fragments to a text, and gives the state that follows.
+/// Adds `count` of these fragments to a text, and gives the state that follows.
 fn add_drawn(
     text: &mut Vec<u8>,
     fragments: &[&[u8]],
@@ -36,7 +36,7 @@ fn add_drawn(
     Ok(state)
 }
 
-/// A text of so many of these fragments, and the state that follows.
+/// A text of `count` of these fragments, and the state that follows.
 pub fn drawn_text(
     alloc: Global,
     fragments: &[&[u8]],

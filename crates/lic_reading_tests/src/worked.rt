@@ -43,14 +43,14 @@ const WORKED: &[(usize, &str, &str)] = &[
     (57, "* \u{436} **/\n* 2\n", "\u{436} 59-61, 2 68-69, "),
 ];
 
-/// A text after so many blanks.
+/// A text after this number of blanks.
 fn after_blanks(alloc: Global, blanks: usize, text: &str) -> Result<Vec<u8>, AllocError> {
     let mut input = vec![in alloc; b' '; blanks]?;
     input.extend_from_slice(text.as_bytes())?;
     Ok(input)
 }
 
-/// Reads a text after so many blanks.
+/// Reads a text after this number of blanks.
 fn try_worked(
     rt: &impl Abort,
     alloc: Global,

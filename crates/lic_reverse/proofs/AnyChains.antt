@@ -22,7 +22,7 @@ letters-chain bytes (c ∷ cs) low place all occurs = (
   letters-chain bytes cs (low + length (encode c)) place (scalar-head c cs all).1 (Occurs-right bytes low (encode c) (encodes cs) place occurs),
 )
 
--- where so many letters of any kind may be up to a place as it has bytes before it, they begin at the beginning
+-- where up to a place there may be as many letters of any kind as it has bytes before it, they begin at the beginning
 pub any-start : (bytes : List ℕ) (count place : ℕ) → IsUtf8 bytes → IsCharBoundary bytes place → place ≤ count → IsStreakStart bytes (λ _. true) count place 0
 any-start bytes count place utf8 whole many =
     let front : List ℕ = take place bytes in

@@ -20,7 +20,7 @@ module _ (keep : Keep) (tokens : List TokenValue) (B : Word → Type 0) where
   abbrev pub IsFollowed : List PlaceSpan → ℕ → ℕ → Type 0
   IsFollowed found q l = (p : ℕ) (u : Word) → B u → Reads tokens p u q → HasBetter keep tokens found p l
 
-  -- what up to so many words lead to is found, and what one word more leads to, but for that from the new places
+  -- what up to `i` words lead to is found, and what one word more leads to, but for that from the new places
   pub record AreReached (xs found front : List PlaceSpan) (i : ℕ) : Type 0 where
     pub back : IsBack keep tokens (UpTo B i) xs found
     pub placed : ArePlaced tokens front
@@ -133,7 +133,7 @@ module _ (keep : Keep) (tokens : List TokenValue) (B : Word → Type 0) where
           let forward = reads-forward tokens power.0 p r.0 r.1 in
           (d.0, Beats-joined keep tokens p r.0 c.0 d.0 l before forward c.1 d.1, d.2)
 
-  -- or after so many words
+  -- or after `n` words
   pub reached-done : (xs found front : List PlaceSpan) (i n : ℕ) → i ≤ n → n ≤ i → AreReached xs found front i → IsBack keep tokens (UpTo B n) xs found
   reached-done xs found front i n few many reached = let is : i ≡ n = omega arith in subst (λ k. IsBack keep tokens (UpTo B k) xs found) is reached.back
 

@@ -1,4 +1,4 @@
--- Going back over tidy words of so many letters and blanks from the numbers of a span, from the greatest down.
+-- Going back over tidy words of a number of letters and blanks from the numbers of a span, from the greatest down.
 use Rattle.std.proofs.Common.{◌≡◌, ◌⊎◌, ◌↔◌, ℕ, suc, ◌<◌, ◌≤◌, List, [], ◌∷◌, ◌++◌, Contains, Option, None, Result, Ok, Err, IfOk, refl, sym, ap, ◌∙◌, subst, arith, inl, inr, le_of_eq, append_assoc, append-nil}
 use Rattle.std.proofs.lemmas.Bool.{cases_lt}
 use Rattle.std.proofs.lemmas.List.Elements.{Contains-push}

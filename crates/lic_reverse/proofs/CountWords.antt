@@ -1,4 +1,4 @@
--- The tidy words of so many letters and blanks of any kind.
+-- The tidy words of a number of letters and blanks of any kind.
 use Rattle.std.proofs.Common.{◌≡◌, ◌⊎◌, ◌↔◌, ℕ, zero, suc, ◌+◌, ◌≤◌, true, [], ◌∷◌, ◌++◌, Option, Some, None, length, refl, sym, ap, ◌∙◌, subst, arith, inl, inr, length-append}
 use Rattle.lic_words.specs.Words.{Word, blank, IsTidy, Power}
 use Rattle.lic_words.specs.Expressions.{Expression, Language, IsAtMost, one, repeat, tidy}

@@ -286,7 +286,7 @@ module _ (keep : Keep) (tokens : List TokenValue) (B : Word → Type 0) (xs foun
   reached-empty ways i count reached more empty same =
       tidy-lists keep tokens (UpTo B count) (λ t q l. Reaches tokens (xs t) q l) found ways same (reached-all keep tokens B xs found front i count more empty reached)
 
-  -- or after so many words
+  -- or after `count` words
   pub reached-done : (ways : Taken → List PlaceSpan) (i count : ℕ) → IsReached keep tokens B xs found front i → i ≤ count → count ≤ i →
       ((s : Taken) → ways s ≡ found s) → IsTidyBack keep tokens (UpTo B count) xs ways
   reached-done ways i count reached few many same =

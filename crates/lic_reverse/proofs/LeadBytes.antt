@@ -7,7 +7,7 @@ use Rattle.lic_view.proofs.CountReads.{follows-byte, occurs-follows}
 use Rattle.lic_view.proofs.LastLetters.{letter-within}
 use Rattle.lic_reverse.proofs.StreakChains.{letter-forward}
 
--- so many bytes has a letter that begins with this one
+-- `long` bytes has a letter that begins with `first`
 pub record IsLong (first long : ℕ) : Type 0 where
   pub one : first < 128 → long ≡ 1
   pub two : 128 ≤ first → first < 224 → long ≡ 2

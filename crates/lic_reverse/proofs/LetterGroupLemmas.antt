@@ -159,7 +159,7 @@ pub record IsPending (tokens : List TokenValue) (first hash k : ℕ) (v : Word) 
   pub reads : Reads tokens p sequence first
   pub is : hash_of v ≡ hash_before hash sequence
 
--- the place was added for each sequence of up to so many letters
+-- the place was added for each sequence of up to `k` letters
 pub record AddsSequences (tokens : List TokenValue) (one : PlaceSpan) (place first hash k : ℕ) (old new : List (Vec Entry Global)) : Type 0 where
   pub same : length new ≡ length old
   pub kept : (h : ℕ) (span : PlaceSpan) → HasEntry old h span → HasEntry new h span

@@ -1,4 +1,4 @@
--- Streaks of letters and blanks of any kind are tidy words of so many.
+-- Streaks of letters and blanks of any kind are tidy words of as many.
 use Rattle.std.proofs.Common.{◌≡◌, ◌⊎◌, ◌↔◌, ℕ, ◌≤◌, true, false, Some, [], ◌∷◌, length, inl, inr, refl, sym, ap, arith, ◌∙◌}
 use Rattle.lic_words.specs.Words.{Word}
 use Rattle.lic_ere.specs.Trees.{Tree, node_tree, tree_of}

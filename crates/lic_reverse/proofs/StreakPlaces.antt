@@ -150,7 +150,7 @@ module _ (tokens : List TokenValue) (texts : AreTexts tokens) where
           same : low ≡ m.at
           same = (letter-one (spelling_of tokens) chain.0 low chain.1 m.at m.letter (spelling-utf8 tokens texts) chain.2 m.occurs).0
 
-  -- a word of so many that pass begins no further back
+  -- a word of up to `count` that pass begins no further back
   pub streak-complete : (passes : ℕ → Bool) (count low q p : ℕ) (v : Word) → IsStreakStart (spelling_of tokens) passes count q low →
       AllPass passes v → length v ≤ count → Reads tokens p v q → low ≤ p
   streak-complete passes count low q p v start passing few reads = by_order (cases_lt p low)

@@ -14,7 +14,7 @@ pass-within passes [] d y all = all.0
 pass-within passes (c ∷ x) d y all = pass-within passes x d y all.1
 
 module _ (passes : ℕ → Bool) where
-  -- so many words of one letter that passes
+  -- `k` words of one letter that passes
   pub power-pass : (k : ℕ) (w : Word) → Power (IsOne passes) k w → AllPass passes w × (length w ≡ k)
   power-pass zero w power = (subst (λ x. AllPass passes x) (sym power) tt, ap length power)
   power-pass (suc k) w power =

@@ -42,7 +42,7 @@ power-parted P (suc j) k n w is power =
       parts.4 ∙ ap (λ x. parts.0 ++ x) more.4 ∙ sym (append_assoc parts.0 more.0 more.1),
     )
 
--- the parts that are empty left out, so many words make a word as it has letters
+-- the parts that are empty left out, no more words make a word than it has letters
 pub power-shorter : (P : Word → Type 0) (k : ℕ) (w : Word) → Power P k w → (j : ℕ) × (j ≤ length w) × (j ≤ k) × Power P j w
 power-shorter P zero w power = (0, omega arith, omega arith, power)
 power-shorter P (suc k) w power =
@@ -76,7 +76,7 @@ module _ (keep : Keep) (tokens : List TokenValue) (B : Word → Type 0) where
   abbrev pub IsFollowed : (Taken → List PlaceSpan) → Taken → ℕ → ℕ → Type 0
   IsFollowed found t q l = (s : Taken) (p : ℕ) (u : Word) → B u → IsTakenBack s u t → Reads tokens p u q → HasBetter keep tokens (found s) p l
 
-  -- what up to so many words lead to is found, and what one word more leads to, but for that from the start
+  -- what up to `i` words lead to is found, and what one word more leads to, but for that from the start
   pub record IsReached (xs found front : Taken → List PlaceSpan) (i : ℕ) : Type 0 where
     pub back : IsTidyBack keep tokens (UpTo B i) xs found
     pub placed : (s : Taken) → ArePlaced tokens (front s)

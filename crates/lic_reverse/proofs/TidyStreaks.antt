@@ -124,7 +124,7 @@ tidy-blank keep tokens xs ys none no_letter blanks = record {
             let from = subst (λ x. Reaches tokens (xs x) q l) (sym taken.2 ∙ at.2) e in
             subst (λ x. HasBetter keep tokens (ys x) p l) (sym at.1) (blanks.complete p q l w from is reads)
 
--- ---- up to so many letters that pass
+-- ---- up to a number of letters that pass
 
 -- these places, and what streaks lead to
 pub tidy-with_streaks : (keep : Keep) (tokens : List TokenValue) (passes : ℕ → Bool) (count : ℕ) (xs copied streaks found : Taken → List PlaceSpan) →

@@ -9,7 +9,7 @@ abbrev pub AllPass : (ℕ → Bool) → Word → Type 0
 AllPass passes [] = Unit {0}
 AllPass passes (c ∷ w) = (passes c ≡ true) × AllPass passes w
 
--- a word of so many letters and blanks at most, which all pass, and first a letter
+-- a word of at most `count` letters and blanks, which all pass, and first a letter
 pub record IsStreak (passes : ℕ → Bool) (count : ℕ) (w : Word) : Type 0 where
   pub passing : AllPass passes w
   pub few : length w ≤ count
@@ -27,12 +27,12 @@ before_of false = nothing
 abbrev pub IsStreakTo : (ℕ → Bool) → ℕ → Bool → Word → Type 0
 IsStreakTo passes count after w = IsStreak passes count w × IsTakenBack a_letter w (before_of after)
 
--- so many letters and blanks that pass are from one place up to the other
+-- a number of letters and blanks that pass are from one place up to the other
 abbrev pub IsChain : List ℕ → (ℕ → Bool) → ℕ → ℕ → ℕ → Type 0
 IsChain bytes passes zero low place = low ≡ place
 IsChain bytes passes (suc count) low place = (next c : ℕ) × IsLetterBefore bytes next low c × (passes c ≡ true) × IsChain bytes passes count next place
 
--- the place from which so many at most are up to a place, and no more of those that pass
+-- the place from which at most `count` are up to a place, and no more of those that pass
 pub record IsStreakStart (bytes : List ℕ) (passes : ℕ → Bool) (count place low : ℕ) : Type 0 where
   pub number : ℕ
   pub few : number ≤ count

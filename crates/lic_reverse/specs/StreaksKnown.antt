@@ -8,7 +8,7 @@ use Rattle.lic_reverse.specs.Streaks.{IsChain}
 abbrev pub IsNoneBefore : List ℕ → (ℕ → Bool) → ℕ → Type 0
 IsNoneBefore bytes passes place = (p c : ℕ) → IsLetterBefore bytes place p c → passes c ≡ true → ⊥
 
--- letters that all pass: so many, or fewer with none that passes before them
+-- letters that all pass: `count`, or fewer with none that passes before them
 pub record IsLongest (bytes : List ℕ) (passes : ℕ → Bool) (count : ℕ) (streak : Streak) : Type 0 where
   pub few : streak.number ≤ count
   pub chain : IsChain bytes passes streak.number streak.low streak.place

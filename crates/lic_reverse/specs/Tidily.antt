@@ -44,11 +44,11 @@ pub record IsTidyBackFrom (keep : Keep) (tokens : List TokenValue) (P : Word →
 abbrev pub IsTidyBack : Keep → List TokenValue → (Word → Type 0) → (Taken → List PlaceSpan) → (Taken → List PlaceSpan) → Type 0
 IsTidyBack keep tokens P ends begins = IsTidyBackFrom keep tokens P (λ t q last. Reaches tokens (ends t) q last) begins
 
--- up to so many words of the set in a row
+-- up to `count` words of the set in a row
 abbrev pub UpTo : (Word → Type 0) → ℕ → Word → Type 0
 UpTo P count w = (k : ℕ) × (k ≤ count) × Power P k w
 
--- how many words there may be beyond the least number: so many as take more bytes than a text has, where there is no end
+-- how many words there may be beyond the least number: as many as take more bytes than a text has, where there is no end
 abbrev pub IsMore : ℕ → Option ℕ → ℕ → Type 0
 IsMore min None more = more + 1 ≡ 2 ^ 64
 IsMore min (Some max) more = more + min ≡ max

@@ -17,7 +17,7 @@ module _ (P : Word → Type 0) where
       none u v zero few power is same = subst L (sym (same ∙ ap (λ x. x ++ v) power)) is
       none u v (suc k) few power is same = absurd (omega arith)
 
-  -- up to so many copies, and then up to so many
+  -- up to `m` copies, and then up to `n`
   pub copies-joined : (L : Word → Type 0) (m n : ℕ) (w : Word) → Cat (UpTo P m) (Cat (UpTo P n) L) w ↔ Cat (UpTo P (m + n)) L w
   copies-joined L m n w = (to, λ cat. from cat.0 cat.1 cat.2.0 cat.2.1 cat.2.2 cat.3 cat.4)
     where
@@ -47,7 +47,7 @@ module _ (P : Word → Type 0) where
           by_order (inl more) = part u v m (i - m) i (omega arith) (omega (arith, few, more)) (omega (arith, more)) power is same
           by_order (inr less) = part u v i 0 i less (omega arith) (omega arith) power is same
 
-  -- no copy, or one before up to so many
+  -- no copy, or one before up to `n`
   pub copies-within : (n : ℕ) (w : Word) → ((w ≡ []) ⊎ Cat P (UpTo P n) w) ↔ UpTo P (n + 1) w
   copies-within n w = (to, λ is. from is.0 is.1 is.2)
     where

@@ -16,7 +16,7 @@ use Rattle.lic_search.proofs.MatchSpans.{GivesPlace-from, one-only}
 
 -- ---- the ends of tokens
 
--- the spans are the ends of so many tokens
+-- the spans are the ends of the first `count` tokens
 pub record AreEnds (tokens : List TokenValue) (count : ℕ) (ends : List PlaceSpan) : Type 0 where
   pub sound : (span : PlaceSpan) → Contains ends span → (last : ℕ) × (last < count) × IsEndOf tokens last span
   pub all : (last : ℕ) → last < count → (span : PlaceSpan) × Contains ends span × IsEndOf tokens last span

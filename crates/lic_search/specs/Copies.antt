@@ -12,7 +12,7 @@ use Rattle.lic_reverse.specs.Tidily.{UpTo}
 abbrev pub words_from : List Part → ℕ → Word → Type 0
 words_from parts first = Language (parts_words (map part_of (drop first parts)))
 
--- The parts from the first up to an end are copies of a text, so many at most, and none of them need be there.
+-- The parts from the first up to an end are copies of a text, at most `count`, and none of them need be there.
 pub record AreCopies (parts : List Part) (end : ℕ) (text : List ℕ) (first count : ℕ) : Type 0 where
   pub within : first ≤ end
   pub words : (w : Word) → words_from parts first w ↔ Cat (UpTo (Language (letters (chars text))) count) (words_from parts end) w

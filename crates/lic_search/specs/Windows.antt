@@ -11,11 +11,11 @@ use Rattle.lic_places.specs.Reads.{Reads}
 use Rattle.lic_spans.specs.declared.span.PlaceSpan.{PlaceSpan}
 use Rattle.lic_search.specs.Beginnings.{IsEndOf}
 
--- each word has no more than so many letters
+-- each word has at most `most` letters
 pub record HasAtMost (words : Expression) (most : ℕ) : Type 0 where
   pub letters : (w : Word) → Language words w → length w ≤ most
 
--- each word ends no more than so many bytes after the place where it begins
+-- each word ends at most `most` bytes after the place where it begins
 pub record TakesAtMost (words : Expression) (most : ℕ) : Type 0 where
   pub bytes : (tokens : List TokenValue) (w : Word) (p q : ℕ) → Language words w → Reads tokens p w q → q ≤ p + most
 

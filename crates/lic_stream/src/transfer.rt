@@ -41,8 +41,8 @@ pub fn read_up_to<R: Source>(
     let mut bytes = Vec::new(alloc);
     let mut chunk = [0u8; CHUNK];
     while bytes.len() < limit {
-        let room = (limit - bytes.len()).min(CHUNK);
-        match input.pull(&mut chunk[..room]) {
+        let len = (limit - bytes.len()).min(CHUNK);
+        match input.pull(&mut chunk[..len]) {
             Err(_) => return Err(ReadFault::Read),
             Ok(0) => return Ok(bytes),
             Ok(n) => {

@@ -23,7 +23,7 @@ use Rattle.lic_vars.proofs.MakingLemmas.{least-derivation, made-by}
 use Rattle.lic_vars.proofs.DecideLemmas.{Decided, decided-both, decided-language}
 use Rattle.lic_vars.proofs.FoundLemmas.{Found, least, none, found-if, found-next, found-or, found-same}
 
--- ---- the words of so many letters and blanks that can be read
+-- ---- the words of a number of letters and blanks that can be read
 
 -- a word that can be read, with a record that it gives with the state after it
 abbrev Reading : ℕ → List (Gap × ℕ) → Bool → (Word → State → List ℕ → Type 0) → List ℕ → Type 0

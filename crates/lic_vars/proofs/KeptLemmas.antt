@@ -106,8 +106,8 @@ module _ (tokens : List TokenValue) (steps : List Step) where
         first = record { set = v; is = record { within = omega arith; is = λ d. refl } };
       })
 
-  pub sets-room : (sets more : List (Option Spans)) → more ≡ sets ++ absent ∷ [] → AreSuffixSets tokens steps sets → AreSuffixSets tokens steps more
-  sets-room sets more same sets_are =
+  pub sets-longer : (sets more : List (Option Spans)) → more ≡ sets ++ absent ∷ [] → AreSuffixSets tokens steps sets → AreSuffixSets tokens steps more
+  sets-longer sets more same sets_are =
       let many = length-append sets (absent ∷ []) in
       subst (AreSuffixSets tokens steps) (sym same) (record {
         are = λ k w is. elim (cases_lt k (length sets)) [

@@ -125,7 +125,7 @@ module _ (tokens : List TokenValue) (are : AreTexts tokens) where
 
   -- ---- letters one after another
 
-  -- so many letters are read up to a place, with blanks between them or none
+  -- a number of letters are read up to a place, with blanks between them or none
   abbrev pub Hops : ℕ → ℕ → ℕ → Type 0
   Hops p zero q = p ≡ q
   Hops p (suc n) q = (b : Bool) × (c : ℕ) × LetterAt p b c × Hops (behind p b c) n q

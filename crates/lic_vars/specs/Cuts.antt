@@ -23,7 +23,7 @@ move_of (Step.Optional n) = optional n
 abbrev pub moves_of : List Step → List Move
 moves_of = map move_of
 
--- the moves of the last so many steps
+-- the moves of the last `k` steps
 abbrev pub last_moves : List Step → ℕ → List Move
 last_moves steps k = moves_of (drop (length steps - k) steps)
 

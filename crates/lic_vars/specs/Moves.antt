@@ -6,7 +6,7 @@ use Rattle.lic_markup.specs.Parts.{Nodes, no_node, one_more}
 use Rattle.lic_markup.specs.Parts as parts
 use Rattle.lic_markup.specs.Meaning.{tree_words}
 
--- a text, a variable, and an optional part of so many moves
+-- a text, a variable, and an optional part of a number of moves
 pub data Move : Type 0 where
   text : Word → Move
   variable : List ℕ → Expression → Move

@@ -22,7 +22,7 @@ pub record AreSuffixSets (tokens : List TokenValue) (steps : List Step) (sets : 
   pub are : (k : ℕ) (set : Vec PlaceSpan Global) → IsSet sets k set → AreFinishing tokens (last_moves steps k) set.items
   pub first : IsThere sets 0
 
--- the k-th step from the end begins an optional part, and after that so many steps are left
+-- the k-th step from the end begins an optional part, and `other` steps are left after it
 pub record IsOther (steps : List Step) (k other : ℕ) : Type 0 where
   pub size : ℕ
   pub moves : List Move

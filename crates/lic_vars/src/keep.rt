@@ -15,8 +15,8 @@ use std::alloc::{AllocError, Global};
 // A set of no more spans is kept.
 const FEW: usize = 16;
 
-// Of the others those are kept that are made first, up to so many spans together.
-const ROOM: usize = 1 << 20;
+// Of the others those are kept that are made first, up to this number of spans together.
+const MANY: usize = 1 << 20;
 
 /// For each number of steps but all, the places from which that many of the last steps lead to the end of the last token: of the sets
 /// of many spans as many as may be kept, and as are needed to make the others again in blocks.
@@ -33,29 +33,29 @@ pub fn suffix_sets(
     // there are about as many blocks as sets in a block
     let block = steps.len().isqrt().max(1);
     let mut stays = needed_sets(alloc, steps, block)?;
-    let mut room = ROOM;
+    let mut spare = MANY;
     let mut sets = end_alone(alloc, view, steps)?;
     for number in 1..steps.len() {
         sets.push(None)?;
         fill(alloc, view, steps, &mut sets, number)?;
         let count = set_of(&sets, number).len();
-        stays[number] |= fits(&steps[steps.len() - number - 1], count, &mut room);
+        stays[number] |= fits(&steps[steps.len() - number - 1], count, &mut spare);
         let_go(&mut sets, &stays, number.saturating_sub(block));
     }
     Ok(sets)
 }
 
-// Whether a set to which a step leads can stay: one of few spans, or one that the walk needs, while there is room. What a text leads to
+// Whether a set to which a step leads can stay: one of few spans, or one that the walk needs, while spans are to spare. What a text leads to
 // it does not need.
-fn fits(step: &Step, count: usize, room: &mut usize) -> bool {
+fn fits(step: &Step, count: usize, spare: &mut usize) -> bool {
     if count <= FEW {
         return true;
     }
     if let Step::Text(_) = step {
         return false;
     }
-    let fits = count <= *room;
-    *room = room.saturating_sub(count);
+    let fits = count <= *spare;
+    *spare = spare.saturating_sub(count);
     fits
 }
 

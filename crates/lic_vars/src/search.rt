@@ -72,7 +72,7 @@ fn take_step<'s>(
 ) -> Result<(), AllocError>
     requires pieces { All IsPiece steps.now }
     requires sets { AreSuffixSets view.now steps.now sets.old.items }
-    requires room { walk.old.left ≤ length sets.old.items }
+    requires enough { walk.old.left ≤ length sets.old.items }
     requires more { 0 < walk.old.left }
     requires within { walk.old.left ≤ length steps.now }
     requires can { CanMake (last_moves steps.now walk.old.left) (ReadsOn view.now walk.old.cut) }

@@ -71,7 +71,7 @@ pub fn fill(
     requires pieces { All IsPiece steps.now }
     requires sets { AreSuffixSets view.now steps.now sets.old.items }
     requires within { number ≤ length steps.now }
-    requires room { number < length sets.old.items }
+    requires enough { number < length sets.old.items }
     ensures sets { OnOk result (AreSuffixSets view.now steps.now sets.new.items) }
     ensures there { OnOk result (IsThere sets.new.items number) }
     ensures count { OnOk result (length sets.new.items ≡ length sets.old.items) }
@@ -79,7 +79,7 @@ pub fn fill(
     let start = start_of(view, steps, sets, number);
     for before in start..number {
         let mut set = set_before(alloc, view, steps, sets, before + 1)?;
-        // the room of spans that came together is not kept
+        // the memory of spans that came together is not kept
         set.shrink_to_fit();
         sets[before + 1] = Some(set);
     }
@@ -95,7 +95,7 @@ fn start_of(
 ) -> usize
     requires sets { AreSuffixSets view.now steps.now sets.now }
     requires within { number ≤ length steps.now }
-    requires room { number < length sets.now }
+    requires enough { number < length sets.now }
     ensures { IsStart steps.now sets.now number result }
 {
     let mut low = number;
@@ -111,7 +111,7 @@ fn start_of(
 fn missing_for(steps: &[Step], sets: &[Option<Vec<PlaceSpan>>], number: usize) -> usize
     requires some { 0 < number }
     requires within { number ≤ length steps.now }
-    requires room { number < length sets.now }
+    requires enough { number < length sets.now }
     ensures { (other : ℕ) → IsOther steps.now number other → HasOther sets.now result other }
 {
     match &steps[steps.len() - number] {

@@ -140,8 +140,8 @@ fn joined(bytes: &[u8], count: usize, first: Streak, second: Streak) -> Streak
         → second.low ≡ first.place → IsLongest bytes.now passes count result }
     ensures place { result.place ≡ second.place }
 {
-    let room = count - second.number;
-    let many = first.number.saturating_sub(room);
+    let others = count - second.number;
+    let many = first.number.saturating_sub(others);
     Streak {
         low: shortened(bytes, first.low, many),
         place: second.place,

@@ -28,12 +28,12 @@ invariant-over_choice-loop-next l = record {
 abbrev pub decreases-over_choice-loop-next : goal.decreases-over_choice-loop-next
 decreases-over_choice-loop-next l = length l.subs - l.next
 
--- so many words are gone over
+-- `l.counter` words are gone over
 abbrev pub invariant-over_times-loop : goal.invariant-over_times-loop
 invariant-over_times-loop l =
     IsTidyBack l.keep l.view (Power (Language (tree_words (tree_of l.body))) l.counter) (spans_of l.fn.ways) (spans_of l.ways)
 
--- what up to so many words lead to is found
+-- what up to `l.counter` words lead to is found
 abbrev pub invariant-over_up_to-loop : goal.invariant-over_up_to-loop
 invariant-over_up_to-loop l =
     IsReached l.keep l.view (Language (tree_words (tree_of l.body))) (spans_of l.fn.ways) (reached_of l.reached) (spans_of l.front) l.counter

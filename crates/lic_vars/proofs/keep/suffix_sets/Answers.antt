@@ -1,11 +1,11 @@
 -- One set more.
 use Rattle.std.proofs.Common.{◌≡◌, ◌+◌, Bool, length, length-append, length-set, ap, ◌∙◌, arith}
-use Rattle.lic_vars.proofs.KeptLemmas.{sets-room}
+use Rattle.lic_vars.proofs.KeptLemmas.{sets-longer}
 use Rattle.lic_vars.proofs.keep.suffix_sets.Goals as goal
 
 pub fill-requires-clause-sets : goal.fill-requires-clause-sets
 fill-requires-clause-sets c =
-    sets-room c.args.view.now c.args.steps.now c.loop-number.sets.items _ c.in_ok-push.ensures.items c.loop-number.invariant.sets
+    sets-longer c.args.view.now c.args.steps.now c.loop-number.sets.items _ c.in_ok-push.ensures.items c.loop-number.invariant.sets
 
 pub loop-number-preserved : goal.loop-number-preserved
 loop-number-preserved c =

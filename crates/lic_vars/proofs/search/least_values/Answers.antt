@@ -40,5 +40,5 @@ loop-walk-preserved c =
       within = omega (arith, step.fewer, inv.within);
       walk = step.walk (moves_of c.args.steps.now) c.args.letters.now inv.walk;
       sets = step.sets;
-      room = omega (arith, step.count, step.fewer, kept, inv.room);
+      enough = omega (arith, step.count, step.fewer, kept, inv.enough);
     }

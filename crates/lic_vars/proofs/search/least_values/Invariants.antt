@@ -11,7 +11,7 @@ invariant-loop-walk l = record {
   within : l.walk.left ≤ length l.steps;
   walk : IsWalk l.view (moves_of l.steps) (last_moves l.steps l.walk.left) l.letters (map value_of l.walk.values.items) l.walk.cut l.walk.letters.now;
   sets : AreSuffixSets l.view l.steps l.sets.items;
-  room : l.walk.left ≤ length l.sets.items;
+  enough : l.walk.left ≤ length l.sets.items;
 }
 
 abbrev pub decreases-loop-walk : goal.decreases-loop-walk

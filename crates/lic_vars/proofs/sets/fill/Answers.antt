@@ -43,7 +43,7 @@ loop-before-preserved c =
     let spans = c.shrink_to_fit.new.self in
     let finish = subst (AreFinishing tokens (last_moves steps next)) (sym c.shrink_to_fit.ensures.items) c.in_ok-set.ensures in
     let inv = c.loop-before.invariant in
-    let within : next < length items = omega (arith, inv.count, c.loop-before-test.true, c.requires.room) in
+    let within : next < length items = omega (arith, inv.count, c.loop-before-test.true, c.requires.enough) in
     record {
       sets = sets-put tokens steps items next spans inv.sets within finish;
       count = length-set items next (Some spans) ∙ inv.count;

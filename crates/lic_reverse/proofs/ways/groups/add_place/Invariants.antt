@@ -1,4 +1,4 @@
--- The place was added for each sequence of so many letters.
+-- The place was added for each sequence of up to `l.counter` letters.
 use Rattle.lic_reverse.proofs.LetterGroupLemmas.{AddsSequences}
 use Rattle.lic_reverse.proofs.ways.groups.add_place.Given as goal
 

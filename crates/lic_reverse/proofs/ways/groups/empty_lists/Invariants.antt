@@ -1,4 +1,4 @@
--- So many lists so far, none with an entry.
+-- The lists so far, none with an entry.
 use Rattle.std.proofs.Common.{◌≡◌, length}
 use Rattle.lic_reverse.proofs.LetterGroupLemmas.{AreEmpty}
 use Rattle.lic_reverse.proofs.ways.groups.empty_lists.Given as goal
