@@ -34,8 +34,8 @@ Options:
       --limit <N>        With --all: at most N lines for each file
   -h, --help             Print help
 
-Templates are the files of DIR whose names end in .template.txt; what stands
-before that is the identifier.
+Templates are the files of DIR whose names end in .template.txt; the part before
+that is the identifier.
 
 Without --all a match is left out where a shorter one of the same template lies
 within it, and of the rest one that lies within a longer one of another
@@ -47,7 +47,7 @@ from 0, the byte at which the match starts, and the byte just past its end.
 
 Without --all a line for each variable of the template follows: an empty field,
 the variable's name, the byte at which its value starts, the byte just past its
-end, and the value. Where a variable stands for nothing, a - follows its name.
+end, and the value. If a variable has no value, a - follows its name.
 
 F:L:ID are the numbers of a first and a last token, and an identifier.
 
@@ -68,8 +68,8 @@ Options:
       --rules <FILE>     The line rules: comment marks and list items to ignore
   -h, --help             Print help
 
-Templates are the files of DIR whose names end in .template.txt; what stands
-before that is the identifier.
+Templates are the files of DIR whose names end in .template.txt; the part before
+that is the identifier.
 
 A template is a line of three fields with a tab between two: the identifier,
 the weight, and yes or no. The original text is the template with each

@@ -9,14 +9,13 @@ use Rattle.clap.specs.Values.{kind_of}
 use Rattle.clap.specs.Walk.{Row, Rule, Text, rows_of}
 use Rattle.clap.specs.declared.builder.arg.Arg.{Arg}
 use Rattle.clap.specs.declared.builder.command.Command.{Command}
-use Rattle.clap.specs.declared.builder.command.Command.TheViews.{out-Command as fields_of}
 use Rattle.clap.specs.declared.error.Error.{Error}
 use Rattle.clap.specs.declared.error.kind.ErrorKind.TheVariants.{OutOfMemory}
 use Rattle.clap.specs.declared.parser.matches.ArgMatches.{ArgMatches}
 use Rattle.clap.specs.declared.parser.matches.ArgMatches.TheViews.{out-ArgMatches}
 use Rattle.clap.specs.declared.parser.matches.Found.{Found}
 use Rattle.clap.proofs.OnLiterals.{clap_on_literals}
-use Rattle.lic_arguments.specs.CommandLine.{AreMatchesOf, HasRule, IsCall, IsNoCall, licscan}
+use Rattle.lic_arguments.specs.CommandLine.{AreMatchesOf, HasForm, HasRule, IsCall, IsNoCall, licscan}
 
 -- of a command of this form the parser says which matches it has and why it refuses arguments
 simple : is_simple licscan ≡ true
@@ -48,10 +47,6 @@ module _ (a : App) (args : List Text) (r : Result ArgMatches Error) (is : a ≡ 
   refused fails = refused_by_licscan args r (as_licscan fails)
 
 -- ---- what is built
-
--- the command has this form, and no argument that those below it take
-abbrev pub HasForm : App → Command → Type 0
-HasForm a command = (app_of command ≡ a) × ((fields_of command).has_globals ≡ false)
 
 pub adds : (old new : Command) (arg : Arg) (a : App) (rule : Rule) → AddsArg old arg new → HasForm a old → HasRule rule arg
     → HasForm (with_rule a rule) new

@@ -58,17 +58,16 @@ check = record (new_shape (codes "check")) { rules = templates ∷ words ∷ rul
 abbrev pub tokens : Shape
 tokens = record (new_shape (codes "tokens")) { rules = words ∷ rules ∷ files ∷ [] }
 
+-- the program, before its commands are added
+abbrev pub bare : App
+bare = record {
+  top = record (new_shape (codes "licscan")) { no_binary_name = true; has_version = true; subcommand_required = true };
+  subs = [];
+}
+
 -- the program, with its commands, of which one is wanted
 abbrev pub licscan : App
-licscan = record {
-  top = record (new_shape (codes "licscan")) {
-    is_leaf = false;
-    no_binary_name = true;
-    has_version = true;
-    subcommand_required = true;
-  };
-  subs = scan ∷ check ∷ tokens ∷ [];
-}
+licscan = record { top = record bare.top { is_leaf = false }; subs = scan ∷ check ∷ tokens ∷ [] }
 
 -- ---- what is built of it
 
@@ -76,9 +75,13 @@ licscan = record {
 abbrev pub HasRule : Rule → Arg → Type 0
 HasRule rule arg = (rule_of arg ≡ rule) × (arg.global ≡ false)
 
+-- the command has this form, and no argument that those below it take
+abbrev pub HasForm : App → Command → Type 0
+HasForm a command = (app_of command ≡ a) × ((fields_of command).has_globals ≡ false)
+
 -- the command has this shape, and no command below it
 abbrev pub HasShape : Shape → Command → Type 0
-HasShape shape command = (app_of command ≡ record { top = shape; subs = [] }) × ((fields_of command).has_globals ≡ false)
+HasShape shape command = HasForm (record { top = shape; subs = [] }) command
 
 -- ---- what arguments are by it
 

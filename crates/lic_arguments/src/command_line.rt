@@ -1,8 +1,9 @@
 //! The command line and its parser.
 
-ghost use Rattle.std.specs.Prelude.{◌≢◌, IfOk, IfErr, map};
+ghost use Rattle.std.specs.Prelude.{◌≡◌, ◌≢◌, IfOk, IfErr, map};
+ghost use Rattle.clap.specs.Simple.{App, app_of, with_rule};
 ghost use Rattle.clap.specs.Values.{kind_of};
-ghost use Rattle.lic_arguments.specs.CommandLine.{AreMatchesOf, HasRule, HasShape, IsNoCall, after, all, check, files, limit, rules};
+ghost use Rattle.lic_arguments.specs.CommandLine.{AreMatchesOf, HasForm, HasRule, HasShape, IsNoCall, after, all, bare, check, files, licscan, limit, rules};
 ghost use Rattle.lic_arguments.specs.CommandLine.{scan, templates, tokens, words};
 
 use clap::error::ErrorKind;
@@ -17,8 +18,8 @@ const ABOUT: &str = "Finds the ranges of texts that licence templates match";
 const SCAN_ABOUT: &str = "Prints each range of a file that a template matches";
 
 const SCAN_DETAILS: &str = "\
-Templates are the files of DIR whose names end in .template.txt; what stands
-before that is the identifier.
+Templates are the files of DIR whose names end in .template.txt; the part before
+that is the identifier.
 
 Without --all a match is left out where a shorter one of the same template lies
 within it, and of the rest one that lies within a longer one of another
@@ -30,7 +31,7 @@ from 0, the byte at which the match starts, and the byte just past its end.
 
 Without --all a line for each variable of the template follows: an empty field,
 the variable's name, the byte at which its value starts, the byte just past its
-end, and the value. Where a variable stands for nothing, a - follows its name.
+end, and the value. If a variable has no value, a - follows its name.
 
 F:L:ID are the numbers of a first and a last token, and an identifier.
 
@@ -42,8 +43,8 @@ Example: licscan scan --templates templates LICENSE README";
 const CHECK_ABOUT: &str = "Checks that each template matches its own original text";
 
 const CHECK_DETAILS: &str = "\
-Templates are the files of DIR whose names end in .template.txt; what stands
-before that is the identifier.
+Templates are the files of DIR whose names end in .template.txt; the part before
+that is the identifier.
 
 A template is a line of three fields with a tab between two: the identifier,
 the weight, and yes or no. The original text is the template with each
@@ -143,16 +144,23 @@ fn limit_option<'a>(alloc: Global) -> Arg<'a>
         .action(ArgAction::Set)
 }
 
+/// With the files of the list of equivalent words and of the line rules.
+fn with_lists<'a>(alloc: Global, command: Command<'a>) -> Result<Command<'a>, AllocError>
+    ensures { IfOk result (λ added. (a : App) → HasForm a command.entry
+        → HasForm (with_rule (with_rule a words) rules) added) }
+{
+    command.arg(words_option(alloc))?.arg(rules_option(alloc))
+}
+
 /// The options and files of `scan`.
 fn scan_command<'a>(alloc: Global) -> Result<Command<'a>, AllocError>
     ensures { IfOk result (HasShape scan) }
 {
-    Command::new(alloc, "scan")
+    let command = Command::new(alloc, "scan")
         .about(SCAN_ABOUT)
         .after_help(SCAN_DETAILS)
-        .arg(templates_option(alloc))?
-        .arg(words_option(alloc))?
-        .arg(rules_option(alloc))?
+        .arg(templates_option(alloc))?;
+    with_lists(alloc, command)?
         .arg(all_option(alloc))?
         .arg(after_option(alloc))?
         .arg(limit_option(alloc))?
@@ -163,24 +171,45 @@ fn scan_command<'a>(alloc: Global) -> Result<Command<'a>, AllocError>
 fn check_command<'a>(alloc: Global) -> Result<Command<'a>, AllocError>
     ensures { IfOk result (HasShape check) }
 {
-    Command::new(alloc, "check")
+    let command = Command::new(alloc, "check")
         .about(CHECK_ABOUT)
         .after_help(CHECK_DETAILS)
-        .arg(templates_option(alloc))?
-        .arg(words_option(alloc))?
-        .arg(rules_option(alloc))
+        .arg(templates_option(alloc))?;
+    with_lists(alloc, command)
 }
 
 /// The options and files of `tokens`.
 fn tokens_command<'a>(alloc: Global) -> Result<Command<'a>, AllocError>
     ensures { IfOk result (HasShape tokens) }
 {
-    Command::new(alloc, "tokens")
+    let command = Command::new(alloc, "tokens")
         .about(TOKENS_ABOUT)
-        .after_help(TOKENS_DETAILS)
-        .arg(words_option(alloc))?
-        .arg(rules_option(alloc))?
-        .arg(files_argument(alloc))
+        .after_help(TOKENS_DETAILS);
+    with_lists(alloc, command)?.arg(files_argument(alloc))
+}
+
+/// The program before its commands are added.
+fn bare_program<'a>(alloc: Global) -> Result<Command<'a>, AllocError>
+    ensures { IfOk result (λ command. app_of command ≡ bare) }
+{
+    Ok(
+        Command::new(alloc, "licscan")
+            .bin_name("licscan")?
+            .no_binary_name(true)
+            .version(VERSION)
+            .about(ABOUT)
+            .subcommand_required(true),
+    )
+}
+
+/// The program with its commands.
+fn program<'a>(alloc: Global) -> Result<Command<'a>, AllocError>
+    ensures { IfOk result (λ command. app_of command ≡ licscan) }
+{
+    bare_program(alloc)?
+        .subcommand(scan_command(alloc)?)?
+        .subcommand(check_command(alloc)?)?
+        .subcommand(tokens_command(alloc)?)
 }
 
 /// Reads the arguments, without the program's name.
@@ -188,14 +217,5 @@ pub fn parse<'a>(alloc: Global, args: &'a [&'a str]) -> Result<ArgMatches<'a>, E
     ensures found { IfOk result (AreMatchesOf (map (λ a. a.now) args.entry.now)) }
     ensures fault { IfErr result (λ error. kind_of error ≢ ErrorKind.OutOfMemory → IsNoCall (map (λ a. a.now) args.entry.now) (kind_of error)) }
 {
-    Command::new(alloc, "licscan")
-        .bin_name("licscan")?
-        .no_binary_name(true)
-        .version(VERSION)
-        .about(ABOUT)
-        .subcommand_required(true)
-        .subcommand(scan_command(alloc)?)?
-        .subcommand(check_command(alloc)?)?
-        .subcommand(tokens_command(alloc)?)?
-        .try_get_matches_from(args)
+    program(alloc)?.try_get_matches_from(args)
 }
