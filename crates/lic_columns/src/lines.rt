@@ -1,5 +1,5 @@
 //! The tokens of lines.
-ghost use Rattle.std.specs.Prelude.{◌≡◌, ℕ, ◌+◌, ◌^◌, ◌<◌, ◌≤◌, [], true, length, map, take, slice_index, IfOk, OnOk, IsAscii};
+ghost use Rattle.std.specs.Prelude.{◌≡◌, ℕ, ◌+◌, ◌^◌, ◌<◌, ◌≤◌, [], true, length, drop, map, take, slice_index, IfOk, OnOk, IsAscii};
 ghost use Rattle.lic_kind.specs.LineRules.{rules_of};
 ghost use Rattle.lic_lines.specs.Cells.{cells_of};
 ghost use Rattle.lic_lines.specs.Streaks.{streaks_joined};
@@ -22,6 +22,9 @@ use lic_trim::SourceChar;
 use std::alloc::{AllocError, Global};
 use std::marker::Model;
 
+/// At most so many characters of a line are kept.
+const MAX_KEPT: usize = 65_536;
+
 /// The tokens of lines of ASCII or of simple characters, read 64 bytes at a time. What it holds from one text to the next is buffers alone.
 #[derive(Drop)]
 pub struct Lines {
@@ -41,6 +44,15 @@ impl Model for Lines {
     ghost Value = { TokenPlaces };
 
     ghost view = { λ l. record { letters = l.columns.letters; starts = l.starts; ends = l.ends } };
+}
+
+/// Lets go of the characters of a long line.
+fn give_back(alloc: Global, characters: &mut Vec<SourceChar>)
+    ensures { length characters.new.items ≤ length characters.old.items }
+{
+    if characters.len() > MAX_KEPT {
+        *characters = Vec::new(alloc);
+    }
 }
 
 impl Lines {
@@ -82,6 +94,16 @@ impl Lines {
         self.ends.as_slice()
     }
 
+    /// Lets go of where the first `n` tokens begin and end, and gives back the memory that is then of no use.
+    pub fn let_go(&mut self, n: usize)
+        requires starts { n ≤ length self.old.starts }
+        requires ends { n ≤ length self.old.ends }
+        ensures { self.new ≡ record self.old { starts = drop n self.old.starts; ends = drop n self.old.ends } }
+    {
+        self.starts.let_go(n);
+        self.ends.let_go(n);
+    }
+
     /// Reads a text of ASCII that begins at this place, whole lines, by these line rules: its first tokens.
     ///
     /// # Errors
@@ -109,6 +131,7 @@ impl Lines {
     {
         self.columns.read(bytes)?;
         clear_lines(alloc, rules, bytes, &mut self.columns, &mut self.characters)?;
+        give_back(alloc, &mut self.characters);
         list_tokens(
             rules.separators(),
             at,

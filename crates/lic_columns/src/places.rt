@@ -1,5 +1,5 @@
 //! Lists of places.
-ghost use Rattle.std.specs.Prelude.{◌≡◌, ◌+◌, ◌-◌, ◌%◌, ◌^◌, ◌<◌, ◌≤◌, ◌++◌, [], length, take, slice_set, bit_and, IfOk};
+ghost use Rattle.std.specs.Prelude.{◌≡◌, ◌+◌, ◌-◌, ◌%◌, ◌^◌, ◌<◌, ◌≤◌, ◌++◌, [], length, drop, take, slice_set, bit_and, IfOk};
 ghost use Rattle.std.specs.Int.{w64, trailing_zeros};
 ghost use Rattle.lic_columns.specs.Flags.{bits_of};
 ghost use Rattle.lic_columns.specs.Places.{places};
@@ -95,6 +95,17 @@ impl Places {
             self.list.resize(most, 0)?;
         }
         Ok(())
+    }
+
+    /// Lets go of the first `n` places, and gives back the memory that is then of no use.
+    pub fn let_go(&mut self, n: usize)
+        requires { n ≤ length self.old }
+        ensures { self.new ≡ drop n self.old }
+    {
+        self.list.copy_within(n..self.len, 0);
+        self.len -= n;
+        self.list.truncate(self.len);
+        self.list.shrink_to_fit();
     }
 
     /// Adds the places of the bits of a mask, in rising order; bit 0 is at this place.
