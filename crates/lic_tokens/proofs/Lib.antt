@@ -7,5 +7,6 @@ pub mod PartedLemmas
 pub mod WordTexts
 pub mod WordBytes
 pub mod StretchTokens
+pub mod LeftTokens
 pub mod TakenSteps
 pub mod BatchLemmas

@@ -6,6 +6,7 @@ ghost use Rattle.lic_lines.specs.Tokens.{Token, single_signs, text_tokens_after,
 ghost use Rattle.lic_phrases.specs.Rewriting.{rewritten};
 ghost use Rattle.lic_phrases.specs.Settling.{nothing_kept};
 ghost use Rattle.lic_phrases.specs.TokenTexts.{HaveTokenTexts, IsTokenText};
+ghost use Rattle.lic_tokens.specs.Stretches.{AreTokenPlaces, tokens_at};
 ghost use Rattle.lic_tokens.specs.Taking.{HasTaken, HasTakenSome, HasTakenUpTo, listed_by, phrases_of};
 ghost use Rattle.lic_tokens.specs.Tokens.{HaveTexts, reported};
 
@@ -14,12 +15,16 @@ pub(crate) mod batch;
 use crate::rewriting::batch::{Batch, Spelled, is_word_at, plain_text, spell};
 use crate::stretch::Stretch;
 use crate::token_list::{TokenList, utf8_text};
+use lic_columns::Lines;
 use lic_lines::{
     Buffers, FirstToken, FrontPart, Rules, SmallString, TextStart, front_part, start_of_text,
 };
 use lic_phrases::{FinalToken, Phrases, Rewriter};
 use lic_trim::SourceChar;
 use std::alloc::{AllocError, Global};
+
+/// Of many tokens that are taken in parts a part has at least so many.
+const PART: usize = 65_536;
 
 /// Buffers for the work on a part of a line, kept from one part to the next. What they hold has no effect.
 #[derive(Drop)]
@@ -189,13 +194,14 @@ impl<'w> Rewriting<'w> {
         Ok(())
     }
 
-    /// Takes tokens of lines, from the number `i` on, as long as each is settled at once and as it is. Gives the number of
-    /// the next.
+    /// Takes tokens of lines, from the number `i` on and up to some number or a little further, as long as each is settled at once and
+    /// as it is. Gives the number of the next.
     #[inline(never)]
     fn take_plain(
         &mut self,
         stretch: &Stretch<'_>,
         i: usize,
+        until: usize,
         batch: &mut Batch,
     ) -> Result<usize, AllocError>
         requires within { i ≤ length stretch.now }
@@ -210,7 +216,7 @@ impl<'w> Rewriting<'w> {
             return Ok(i);
         }
         let mut next = i;
-        while next < stretch.len() {
+        while next < until {
             let after = self.take_batch(stretch, next, batch)?;
             next = self.take_one(stretch, after)?;
             if next == after {
@@ -307,6 +313,35 @@ impl<'w> Rewriting<'w> {
         Ok(i + 1)
     }
 
+    /// Takes tokens of lines, each copyright sign as one, from the number `from` on and up to some number or a little further, and lists the
+    /// tokens that are settled then. Gives the number of the next.
+    fn take_until(
+        &mut self,
+        alloc: Global,
+        stretch: &Stretch<'_>,
+        from: usize,
+        until: usize,
+        batch: &mut Batch,
+    ) -> Result<usize, AllocError>
+        requires within { from ≤ length stretch.now }
+        requires emptied { self.old.settled.items ≡ [] }
+        requires before { HasTakenSome self.old }
+        requires texts { HaveTexts stretch.now }
+        ensures from { IfOk result (λ next. min until (length stretch.now) ≤ next) }
+        ensures within { IfOk result (λ next. next ≤ length stretch.now) }
+        ensures taken { IfOk result (λ next. HasTakenUpTo stretch.now from next self.old self.new) }
+        ensures phrases { self.new.phrases.now ≡ self.old.phrases.now }
+        ensures emptied { OnOk result (self.new.settled.items ≡ []) }
+    {
+        let until = until.min(stretch.len());
+        let mut next = from;
+        while next < until {
+            next = self.take_plain(stretch, next, until, batch)?;
+            next = self.take_next(alloc, stretch, next)?;
+        }
+        Ok(next)
+    }
+
     /// Takes the tokens of lines, each copyright sign as one, and lists the tokens that are settled then.
     pub fn take_stretch(
         &mut self,
@@ -322,10 +357,37 @@ impl<'w> Rewriting<'w> {
     {
         self.settled.clear();
         self.tokens.reserve(stretch.len(), stretch.bytes())?;
-        let mut i = 0;
-        while i < stretch.len() {
-            i = self.take_plain(stretch, i, batch)?;
-            i = self.take_next(alloc, stretch, i)?;
+        self.take_until(alloc, stretch, 0, stretch.len(), batch)?;
+        Ok(())
+    }
+
+    /// Takes the tokens of many lines or of a long one in the same way, part after part, and lets go of where those begin and end that are
+    /// taken: so the memory for that is given back while the memory for their list grows. Of the tokens that are let go of the last stays,
+    /// since whether a blank comes before the next one shows by its end.
+    pub fn take_lines(
+        &mut self,
+        alloc: Global,
+        at: u32,
+        lines: &mut Lines,
+        batch: &mut Batch,
+    ) -> Result<(), AllocError>
+        requires before { HasTakenSome self.old }
+        requires places { AreTokenPlaces at lines.old }
+        requires texts { HaveTexts (tokens_at at lines.old) }
+        ensures taken { OnOk result ((taken : List Token) → HasTaken self.old taken
+            → HasTaken self.new (taken ++ single_signs (tokens_at at lines.old))) }
+        ensures phrases { phrases_of self.new ≡ phrases_of self.old }
+    {
+        self.settled.clear();
+        self.tokens
+            .reserve(lines.starts().len(), lines.letters().len())?;
+        let mut from = 0;
+        while from < lines.starts().len() {
+            let part = (lines.starts().len() / 4).max(PART);
+            let stretch = Stretch::of(at, lines);
+            let next = self.take_until(alloc, &stretch, from, from + part, batch)?;
+            lines.let_go(next - 1);
+            from = 1;
         }
         Ok(())
     }
