@@ -1,9 +1,9 @@
 -- The tokens of lines of simple characters at the start of bytes.
-use Rattle.std.proofs.Common.{◌≡◌, ℕ, ◌+◌, ◌-◌, ◌<◌, ◌≤◌, Bool, true, List, [], ◌∷◌, ◌++◌, length, map, take, drop, get_or, inl, inr, ◌⊎◌, refl, sym, ap, ap₂, subst, ◌∙◌, arith, take-add}
+use Rattle.std.proofs.Common.{◌≡◌, ℕ, ◌+◌, ◌-◌, ◌<◌, ◌≤◌, Bool, true, List, [], ◌∷◌, ◌++◌, length, map, take, drop, get_or, refl, sym, ap, ap₂, subst, ◌∙◌, arith, take-append-drop, take_at, length-take-le}
 use Rattle.std.specs.Prelude.{chars, IsUtf8, slice_index}
 use Rattle.std.specs.Str.{IsCharBoundary}
 use Rattle.std.proofs.lemmas.List.{length-map}
-use Rattle.std.proofs.lemmas.Str.{IsUtf8-nil, IsUtf8-append, chars-append, chars-nil, encodes-chars}
+use Rattle.std.proofs.lemmas.Str.{chars-append, encodes-chars}
 use Rattle.lic_kind.specs.LineRules.{LineRules}
 use Rattle.lic_columns.specs.Bytes.{letter, is_word, is_mark}
 use Rattle.lic_columns.specs.Cells.{AreCells, Span, cells_of, spans, starts_of, ends_of}
@@ -18,7 +18,6 @@ use Rattle.lic_columns.proofs.CellLemmas.{length-cells}
 use Rattle.lic_columns.proofs.ColumnLemmas.{kept_is_mark}
 use Rattle.lic_columns.proofs.LetterTexts.{letters_are_utf8, letters_of_words}
 use Rattle.lic_columns.proofs.MarkLemmas.{joined_are_cells}
-use Rattle.lic_columns.proofs.PlainLines.{ended_chars}
 use Rattle.lic_columns.proofs.SimpleLetters.{simple_letters}
 use Rattle.lic_columns.proofs.SimpleLines.{simple_lines_are}
 use Rattle.lic_columns.proofs.SpanTokenLemmas.{spans_by-own, spans_bounded, bounded_at, length-ends}
@@ -26,46 +25,32 @@ use Rattle.lic_columns.proofs.SpelledFronts.{placed_both}
 use Rattle.lic_columns.proofs.TextLemmas.{IsText-known_of, kept_length, kept_are_apart}
 use Rattle.lic_columns.proofs.WideMarks.{places_size}
 
--- ---- lines of simple characters
+-- ---- a beginning of simple characters
 
--- a mark is not the same as U+000A, which comes before or after it
-feed_alone : (cs : List ℕ) → IsAlone 0x0A cs
-feed_alone [] = tt
-feed_alone (c ∷ cs) = λ big mark same. absurd (omega (arith, big))
+alone_front : (c : ℕ) (xs ys : List ℕ) → IsAlone c (xs ++ ys) → IsAlone c xs
+alone_front c [] ys alone = tt
+alone_front c (x ∷ xs) ys alone = alone
 
-still_alone : (c : ℕ) (cs more : List ℕ) → IsAlone c (cs ++ 0x0A ∷ []) → IsAlone c ((cs ++ 0x0A ∷ []) ++ more)
-still_alone c [] more alone = alone
-still_alone c (d ∷ cs) more alone = alone
+simple_front : (xs ys : List ℕ) → AreSimple (xs ++ ys) → AreSimple xs
+simple_front [] ys are = tt
+simple_front (x ∷ xs) ys are = (are.0, alone_front x xs ys are.1, simple_front xs ys are.2)
 
-simple_both : (cs more : List ℕ) → AreSimple (cs ++ 0x0A ∷ []) → AreSimple more → AreSimple ((cs ++ 0x0A ∷ []) ++ more)
-simple_both [] more are after = (are.0, feed_alone more, after)
-simple_both (c ∷ cs) more are after = (are.0, still_alone c cs more are.1, simple_both cs more are.2 after)
-
-ended_simple : (lines more : List ℕ) → IsUtf8 lines → (lines ≡ []) ⊎ ((front : List ℕ) × (lines ≡ front ++ 0x0A ∷ []))
-    → AreSimple (chars lines) → AreSimple more → AreSimple (chars lines ++ more)
-ended_simple lines more utf8 (inl none) are after = subst (λ l. AreSimple (l ++ more)) (sym (ap chars none ∙ chars-nil)) after
-ended_simple lines more utf8 (inr (front, ends)) are after =
-    let own = ended_chars lines front utf8 ends in
-    subst (λ l. AreSimple (l ++ more)) (sym own) (simple_both (chars front) more (subst AreSimple own are) after)
-
-pub none_spelled : IsSpelled [] []
-none_spelled = record {
-  utf8 = IsUtf8-nil;
-  simple = subst AreSimple (sym chars-nil) tt;
-  is = ap all_in_place (sym chars-nil);
-}
-
-pub line_spelled : (rules : LineRules) (bytes rest spelled line : List ℕ) (at n : ℕ) → rest ≡ drop at bytes → ArePlainLines rules (take at bytes)
-    → IsSpelled (take at bytes) spelled → IsSpelled (take n rest) line → IsSpelled (take (at + n) bytes) (spelled ++ line)
-line_spelled rules bytes rest spelled line at n same lines before here =
-    let front = take at bytes in
-    let next = take n rest in
-    let all = chars-append front next before.utf8 in
-    subst (λ l. IsSpelled l (spelled ++ line)) (ap (λ l. front ++ take n l) same ∙ sym (take-add at n bytes)) (record {
-      utf8 = IsUtf8-append front next before.utf8 here.utf8;
-      simple = subst AreSimple (sym all) (ended_simple front (chars next) before.utf8 lines.ended before.simple here.simple);
-      is = ap₂ (λ a b. a ++ b) before.is here.is ∙ sym (placed_both (chars front) (chars next)) ∙ ap all_in_place (sym all);
-    })
+-- a beginning of a text of simple characters, and what it is spelled by
+pub front_spelled : (text spelled : List ℕ) (n : ℕ) → IsSpelled text spelled → n ≤ length text → IsUtf8 (take n text)
+    → IsSpelled (take n text) (take n spelled)
+front_spelled text spelled n is within utf8 =
+    let front = take n text in
+    let xs = chars front in
+    let ys = chars (drop n text) in
+    let all : chars text ≡ xs ++ ys = ap chars (sym (take-append-drop n text)) ∙ chars-append front (drop n text) utf8 in
+    let are : AreSimple xs = simple_front xs ys (subst AreSimple all is.simple) in
+    let both : spelled ≡ all_in_place xs ++ all_in_place ys = is.is ∙ ap all_in_place all ∙ placed_both xs ys in
+    let long : length (all_in_place xs) ≡ n = sym (places_size xs are) ∙ ap length (encodes-chars front utf8) ∙ length-take-le n text within in
+    record {
+      utf8 = utf8;
+      simple = are;
+      is = ap (take n) both ∙ take_at (all_in_place xs) (all_in_place ys) n long;
+    }
 
 -- ---- its tokens
 

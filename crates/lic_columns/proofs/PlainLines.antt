@@ -1,13 +1,14 @@
 -- Lines one after another of which nothing but white space is taken.
-use Rattle.std.proofs.Common.{◌≡◌, ◌≢◌, ◌⊎◌, ℕ, ◌+◌, ◌<◌, false, ◌==◌, List, [], ◌∷◌, ◌++◌, length, take, drop, get_or, inl, inr, refl, sym, ap, subst, ◌∙◌, arith, lit<, All, Some, append_assoc, length-append, length-take-le, take-add, take_at, eqb-true, eq-eqb}
+use Rattle.std.proofs.Common.{◌≡◌, ◌≢◌, ◌⊎◌, ℕ, ◌+◌, ◌-◌, ◌<◌, ◌≤◌, false, ◌==◌, List, [], ◌∷◌, ◌++◌, length, take, drop, get_or, inl, inr, refl, sym, ap, subst, ◌∙◌, arith, lit<, All, Some, append_assoc, length-append, length-take-le, take-add, take-take, take_at, eqb-true, eq-eqb}
 use Rattle.std.specs.Prelude.{chars, IsUtf8, encode_utf8_all}
 use Rattle.std.specs.Char.{encode_utf8, len_utf8}
 use Rattle.std.specs.List.{AllByRecursion, onto_first}
 use Rattle.std.proofs.Math.Seq.{get_or-append_seam}
 use Rattle.std.proofs.lemmas.Bool.{cond-false, cases_Bool}
-use Rattle.std.proofs.lemmas.List.{get_or-append-add, get_or-take, take_more}
+use Rattle.std.proofs.lemmas.List.{drop-take, get_or-append-add, get_or-drop, get_or-take, take_more}
 use Rattle.std.proofs.lemmas.List.Elements.{All-nil, All-cons, All-head, All-tail, All-get_or, All-from_get_or}
-use Rattle.std.proofs.lemmas.Str.{IsCharBoundary-before_ascii, IsUtf8-nil, IsUtf8-append, IsUtf8-take, encodes-chars, chars-append, chars-nil, chars-IsAscii, encode_ascii, length-encode, len_utf8_bounds}
+use Rattle.std.specs.Str.{IsCharBoundary}
+use Rattle.std.proofs.lemmas.Str.{IsCharBoundary-after_ascii, IsCharBoundary-before_ascii, IsCharBoundary-from_take, IsUtf8-nil, IsUtf8-append, IsUtf8-drop, IsUtf8-take, encodes-chars, chars-append, chars-nil, chars-IsAscii, encode_ascii, length-encode, len_utf8_bounds}
 use Rattle.std.proofs.lemmas.Str.Ascii.{IsAscii-cons, IsAscii-nil}
 use Rattle.memchr.specs.Find.{IsFirstByte, is_byte}
 use Rattle.lic_kind.specs.LineRules.{LineRules}
@@ -72,6 +73,30 @@ found_line bytes place h =
     let inside : k < place = omega (arith, length-take-le place bytes (omega arith)) in
     h.0.before k (omega arith) inside (eq-eqb _ _ (sym (get_or-take place bytes k 0 inside) ∙ is)) in
     (take_more bytes place 0 lt ∙ ap (λ b. front ++ b ∷ []) at, All-from_get_or (λ c. c ≢ 0x0A) front 0 none)
+
+pub feed_found : (bytes : List ℕ) (place : ℕ) → IsFirstByte (is_byte 0x0A) bytes (Some place) → get_or bytes (place + 1 - 1) 0 ≡ 0x0A
+feed_found bytes place h =
+    let same : place + 1 - 1 ≡ place = omega arith in
+    ap (λ i. get_or bytes i 0) same ∙ eqb-true (get_or bytes place 0) 0x0A h.1
+
+-- a line ends in U+000A: in a text in UTF-8 that goes on after it, it is in UTF-8 by itself
+pub line_utf8 : (bytes rest : List ℕ) (at n done : ℕ) → rest ≡ drop at bytes → 0 < n → at + n ≤ done → done ≤ length bytes
+    → IsUtf8 (take done bytes) → IsUtf8 (take at bytes) → get_or rest (n - 1) 0 ≡ 0x0A → IsUtf8 (take n rest)
+line_utf8 bytes rest at n done same some le within utf8 before feed =
+    let text = take done bytes in
+    let front = take (at + n) bytes in
+    let last : ℕ = at + (n - 1) in
+    let in_bytes : get_or bytes last 0 ≡ 0x0A = sym (get_or-drop at bytes (n - 1) 0) ∙ ap (λ l. get_or l (n - 1) 0) (sym same) ∙ feed in
+    let in_text : get_or text last 0 ≡ 0x0A = get_or-take done bytes last 0 (omega (arith, some, le)) ∙ in_bytes in
+    let long : length text ≡ done = length-take-le done bytes within in
+    let place : last + 1 ≡ at + n = omega (arith, some) in
+    let end : IsCharBoundary text (at + n) =
+    subst (IsCharBoundary text) place (IsCharBoundary-after_ascii text last utf8 (omega (arith, some, le, long)) (omega (arith, in_text))) in
+    let front_utf8 : IsUtf8 front = subst IsUtf8 (take-take (at + n) done bytes le) (IsUtf8-take text (at + n) utf8 end) in
+    let inside : at ≤ length front = omega (arith, le, within, length-take-le (at + n) bytes (omega (arith, le, within))) in
+    let begin : IsCharBoundary front at =
+    IsCharBoundary-from_take front at front_utf8 inside (subst IsUtf8 (sym (take-take at (at + n) bytes (omega arith))) before) in
+    subst IsUtf8 (drop-take at n bytes ∙ ap (take n) (sym same)) (IsUtf8-drop front at front_utf8 begin)
 
 pub plain_found : (rules : LineRules) (bytes : List ℕ) (place : ℕ) → IsFirstByte (is_byte 0x0A) bytes (Some place) → IsUtf8 (take (place + 1) bytes)
     → TakesSpaces (cut_of rules whole_line (chars (take (place + 1) bytes))) (chars (take (place + 1) bytes)) → IsPlainLine rules (take (place + 1) bytes)

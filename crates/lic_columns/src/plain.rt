@@ -1,10 +1,10 @@
 //! Lines at the start of bytes of which nothing but white space is taken.
-ghost use Rattle.std.specs.Prelude.{◌≡◌, ◌≤◌, length, take, IfOk, IfSome, IsTrue, IsUtf8, chars};
+ghost use Rattle.std.specs.Prelude.{◌≡◌, ◌-◌, ◌<◌, ◌≤◌, [], length, slice_index, take, IfOk, IfSome, IsTrue, IsUtf8, chars};
 ghost use Rattle.lic_kind.specs.LineRules.{rules_of};
 ghost use Rattle.lic_trim.specs.Lines.{cut_of, whole_line};
 ghost use Rattle.lic_trim.specs.Spaces.{TakesSpaces};
 ghost use Rattle.lic_columns.specs.PlainLines.{ArePlainLines, IsPlainLine};
-ghost use Rattle.lic_columns.specs.Simple.{IsSpelled};
+ghost use Rattle.lic_columns.specs.Simple.{ArePut, IsSpelled};
 
 use crate::chars::{char_at_end, char_at_start};
 use crate::wide::spell_front;
@@ -43,16 +43,18 @@ fn is_plain(rules: &Rules, line: &[u8]) -> bool
     ensures { IsTrue result → IsUtf8 line.now
         → TakesSpaces (cut_of (rules_of rules.now) whole_line (chars line.now)) (chars line.now) }
 {
-    if line.is_ascii() {
-        return takes_spaces(rules, line);
+    if wide_takes_spaces(rules, line) {
+        return true;
     }
-    wide_takes_spaces(rules, line)
+    line.is_ascii() && takes_spaces(rules, line)
 }
 
 /// How many bytes the first line has, if it has ended and, where it is in UTF-8, nothing but white space is taken from it, as far as its
 /// edges show.
 fn plain_line(rules: &Rules, bytes: &[u8]) -> Option<usize>
     ensures within { IfSome result (λ n. n ≤ length bytes.now) }
+    ensures some { IfSome result (λ n. 0 < n) }
+    ensures feed { IfSome result (λ n. slice_index bytes.now (n - 1) ≡ 0x0A) }
     ensures plain { IfSome result (λ n. IsUtf8 (take n bytes.now) → IsPlainLine (rules_of rules.now) (take n bytes.now)) }
 {
     let place = memchr(b'\n', bytes)?;
@@ -62,6 +64,28 @@ fn plain_line(rules: &Rules, bytes: &[u8]) -> Option<usize>
     } else {
         None
     }
+}
+
+/// Adds what these bytes are spelled by, of which `done` are spelled already, until `end` of them are, as far as they are of simple
+/// characters. The answer is how many are then spelled.
+#[inline(always)]
+fn spell_to(
+    alloc: Global,
+    spelled: &mut Vec<u8>,
+    bytes: &[u8],
+    done: usize,
+    end: usize,
+) -> Result<usize, AllocError>
+    requires within { end ≤ length bytes.now }
+    requires put { ArePut bytes.now done [] spelled.old.items }
+    ensures put { IfOk result (λ n. ArePut bytes.now n [] spelled.new.items) }
+    ensures more { IfOk result (λ n. done ≤ n) }
+{
+    if done >= end {
+        return Ok(done);
+    }
+    let more = spell_front(alloc, spelled, &bytes[done..], end - done)?;
+    Ok(done + more)
 }
 
 /// Puts what such lines at the start of these bytes are spelled by in the place of what is there, as far as they are of simple
@@ -81,13 +105,15 @@ pub fn spell_lines(
 {
     spelled.clear();
     let mut at = 0;
+    let mut done = 0;
     while let Some(count) = plain_line(rules, &bytes[at..]) {
-        let simple = spell_front(alloc, spelled, &bytes[at..at + count])?;
-        if simple < count {
-            spelled.truncate(at);
-            return Ok(at);
+        let end = at + count;
+        done = spell_to(alloc, spelled, bytes, done, end)?;
+        if done < end {
+            break;
         }
-        at += count;
+        at = end;
     }
+    spelled.truncate(at);
     Ok(at)
 }

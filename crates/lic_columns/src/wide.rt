@@ -76,13 +76,14 @@ fn own_some(bytes: &[u8]) -> usize
     if count > 0 { count } else { own_letter(bytes) }
 }
 
-/// How many bytes stay as they are at the start of these.
+/// How many bytes stay as they are at the start of these, looked for until they are enough.
 #[inline(always)]
-fn own_front(bytes: &[u8]) -> usize
+fn own_front(bytes: &[u8], enough: usize) -> usize
+    requires { enough ≤ length bytes.now }
     ensures { AreOwn bytes.now result }
 {
     let mut at = 0;
-    while at < bytes.len() {
+    while at < enough {
         let count = own_some(&bytes[at..]);
         if count == 0 {
             return at;
@@ -199,14 +200,20 @@ fn push_first(alloc: Global, spelled: &mut Vec<u8>, bytes: &[u8]) -> Result<usiz
     }
 }
 
-/// Adds what is put in the place of some characters at the start of these bytes, as many as stay as they are, or one that is simple.
-/// The answer is how many bytes they have, or 0.
+/// Adds what is put in the place of some characters at the start of these bytes, as many as stay as they are until they are enough, or
+/// one that is simple. The answer is how many bytes they have, or 0.
 #[inline(always)]
-fn push_some(alloc: Global, spelled: &mut Vec<u8>, bytes: &[u8]) -> Result<usize, AllocError>
+fn push_some(
+    alloc: Global,
+    spelled: &mut Vec<u8>,
+    bytes: &[u8],
+    enough: usize,
+) -> Result<usize, AllocError>
+    requires { enough ≤ length bytes.now }
     ensures put { IfOk result (λ n. 0 < n → ArePut bytes.now n spelled.old.items spelled.new.items) }
     ensures same { IfOk result (λ n. n ≡ 0 → spelled.new.items ≡ spelled.old.items) }
 {
-    let own = own_front(bytes);
+    let own = own_front(bytes, enough);
     if own == 0 {
         return push_first(alloc, spelled, bytes);
     }
@@ -214,17 +221,23 @@ fn push_some(alloc: Global, spelled: &mut Vec<u8>, bytes: &[u8]) -> Result<usize
     Ok(own)
 }
 
-/// Adds what simple characters at the start of these bytes are spelled by, byte for byte. The answer is how many bytes these
-/// characters have.
+/// Adds what simple characters at the start of these bytes are spelled by, byte for byte, until they are enough: mostly a few more, since
+/// 16 bytes are looked at together. The answer is how many bytes these characters have.
 ///
 /// # Errors
 /// Memory ran out. What was added is then not said.
-pub fn spell_front(alloc: Global, spelled: &mut Vec<u8>, bytes: &[u8]) -> Result<usize, AllocError>
+pub fn spell_front(
+    alloc: Global,
+    spelled: &mut Vec<u8>,
+    bytes: &[u8],
+    enough: usize,
+) -> Result<usize, AllocError>
+    requires { enough ≤ length bytes.now }
     ensures { IfOk result (λ n. ArePut bytes.now n spelled.old.items spelled.new.items) }
 {
     let mut at = 0;
-    while at < bytes.len() {
-        let count = push_some(alloc, spelled, &bytes[at..])?;
+    while at < enough {
+        let count = push_some(alloc, spelled, &bytes[at..], enough - at)?;
         if count == 0 {
             return Ok(at);
         }

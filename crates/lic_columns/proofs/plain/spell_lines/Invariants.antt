@@ -1,12 +1,11 @@
-use Rattle.std.proofs.Common.{◌-◌, ◌≤◌, length, take}
+use Rattle.std.proofs.Common.{◌-◌, ◌≤◌, [], length, take}
 use Rattle.lic_kind.specs.LineRules.{rules_of}
 use Rattle.lic_columns.specs.PlainLines.{ArePlainLines}
-use Rattle.lic_columns.specs.Simple.{IsSpelled}
+use Rattle.lic_columns.specs.Simple.{ArePut}
 use Rattle.lic_columns.proofs.plain.spell_lines.Given as goal
 
 abbrev pub invariant-loop-count : goal.invariant-loop-count
-invariant-loop-count l =
-    (l.at ≤ length l.bytes) × ArePlainLines (rules_of l.rules) (take l.at l.bytes) × IsSpelled (take l.at l.bytes) l.spelled.items
+invariant-loop-count l = (l.at ≤ l.done) × ArePut l.bytes l.done [] l.spelled.items × ArePlainLines (rules_of l.rules) (take l.at l.bytes)
 
 abbrev pub decreases-loop-count : goal.decreases-loop-count
 decreases-loop-count l = length l.bytes - l.at
