@@ -1,22 +1,22 @@
 -- The letters of simple characters: what of them is beyond ASCII is of words.
-use Rattle.std.proofs.Common.{◌≡◌, ℕ, zero, suc, ◌<◌, ◌≤◌, false, ◌&&◌, ◌||◌, List, [], ◌∷◌, ◌++◌, All, length, map, get_or, replicate, inl, inr, refl, sym, ap, ap₂, subst, ◌∙◌, arith, append-nil}
+use Rattle.std.proofs.Common.{◌≡◌, ℕ, zero, suc, ◌<◌, ◌≤◌, false, List, [], ◌∷◌, ◌++◌, All, map, replicate, inl, inr, refl, sym, ap, ap₂, subst, ◌∙◌, arith}
 use Rattle.std.specs.Prelude.{nat_lt, chars, IsAscii, IsUtf8, encode_utf8_all}
-use Rattle.std.specs.Char.{encode_utf8, len_utf8}
+use Rattle.std.specs.Char.{len_utf8}
 use Rattle.std.specs.List.{AllByRecursion}
 use Rattle.std.proofs.lemmas.Bool.{cases_Bool, cases_lt, cond-true, cond-false, lt-ltb, ltb-true}
 use Rattle.std.proofs.lemmas.List.{map-append}
-use Rattle.std.proofs.lemmas.List.Elements.{All-head}
-use Rattle.std.proofs.lemmas.Str.{IsUtf8-append, IsUtf8-from_ascii, IsUtf8-nil, chars_from_encodes, encode_ascii, encodes-append, inside_one}
+use Rattle.std.proofs.lemmas.List.Elements.{All-head, All-tail}
+use Rattle.std.proofs.lemmas.Str.{IsUtf8-append, IsUtf8-from_ascii, IsUtf8-nil, chars_from_encodes, encode_ascii, encodes-append}
 use Rattle.std.proofs.lemmas.Str.Ascii.{IsAscii-cons, IsAscii-nil}
 use Rattle.lic_kind.specs.declared.Kind.TheVariants as kind
-use Rattle.lic_kind.specs.Kinds.{kind_of, is_mark_kind, is_word_kind}
+use Rattle.lic_kind.specs.Kinds.{kind_of, spell}
 use Rattle.lic_kind.proofs.LetterLemmas.{word_letters}
-use Rattle.lic_columns.specs.Bytes.{letter, has_letter}
+use Rattle.lic_columns.specs.Bytes.{letter}
 use Rattle.lic_columns.specs.PlainLines.{IsOfWord}
 use Rattle.lic_columns.specs.Simple.{IsSimple, IsSimpleLetter, AreSimple, in_place, in_place_of, all_in_place}
 use Rattle.lic_columns.proofs.AsciiLetters.{letter_low, letters_ascii}
 use Rattle.lic_columns.proofs.Borders.{mark_low}
-use Rattle.lic_columns.proofs.WideTexts.{mark_shape}
+use Rattle.lic_columns.proofs.WideTexts.{letter_in_place, mark_shape, own_letters}
 
 -- ---- bytes of a character beyond ASCII
 
@@ -25,24 +25,6 @@ not_below b high = elim (cases_Bool (nat_lt b 128)) [
   | inl below ↦ absurd (let low : b < 128 = ltb-true b 128 below in omega (arith, low, high))
   | inr none ↦ none
 ]
-
-high_letter : (b : ℕ) → 128 ≤ b → letter b ≡ b
-high_letter b high = cond-false (has_letter b) _ b (ap (λ t. t && (is_word_kind (kind_of b) || is_mark_kind (kind_of b))) (not_below b high))
-
-all_high : (xs : List ℕ) → ((k : ℕ) → k < length xs → 128 ≤ get_or xs k 0) → map letter xs ≡ xs
-all_high [] high = refl
-all_high (x ∷ xs) high = ap₂ (λ a l. a ∷ l) (high_letter x (high zero (omega arith))) (all_high xs (λ k lt. high (suc k) (omega (arith, lt))))
-
-wide_letters : (d : ℕ) → 128 ≤ d → map letter (encode_utf8_all (d ∷ [])) ≡ encode_utf8_all (d ∷ [])
-wide_letters d big =
-    let bytes = encode_utf8 d in
-    let high : (k : ℕ) → k < length bytes → 128 ≤ get_or bytes k 0 = λ k lt. elim (cases_lt (get_or bytes k 0) 128) [
-      | inl low ↦ absurd (
-          let same = inside_one d [] bytes k (sym (append-nil bytes)) lt low in
-          omega (arith, same, low, big))
-      | inr high ↦ high
-    ] in
-    ap (map letter) (append-nil bytes) ∙ all_high bytes high ∙ sym (append-nil bytes)
 
 -- ---- letters as characters
 
@@ -68,14 +50,16 @@ low_words (suc n) d low =
 big_in_place : (c : ℕ) → 128 ≤ c → in_place c ≡ in_place_of (kind_of c) c
 big_in_place c big = cond-false (nat_lt c 128) (c ∷ []) (in_place_of (kind_of c) c) (not_below c big)
 
+of_words : (ds : List ℕ) → All (λ d. kind_of d ≡ kind.Word) ds → AllByRecursion IsOfWord ds
+of_words [] words = tt
+of_words (d ∷ ds) words =
+    (λ high. All-head (λ e. kind_of e ≡ kind.Word) d ds words, of_words ds (All-tail (λ e. kind_of e ≡ kind.Word) d ds words))
+
 letter_words : (c : ℕ) → 128 ≤ c → IsSimpleLetter c → HaveWords (in_place c)
 letter_words c big is =
-    let own : in_place c ≡ encode_utf8_all (is.letter ∷ []) =
-    big_in_place c big ∙ ap (λ k. in_place_of k c) is.word ∙ ap encode_utf8_all is.spelled in
-    let word : kind_of is.letter ≡ kind.Word =
-    All-head (λ d. kind_of d ≡ kind.Word) is.letter [] (subst (All (λ d. kind_of d ≡ kind.Word)) is.spelled (word_letters c is.word)) in
-    let same : map letter (in_place c) ≡ encode_utf8_all (is.letter ∷ []) = ap (map letter) own ∙ wide_letters is.letter is.high in
-    (is.letter ∷ [], same, (λ high. word, tt), subst IsUtf8 (sym (same ∙ append-nil (encode_utf8 is.letter))) is.utf8)
+    let same : map letter (in_place c) ≡ encode_utf8_all (spell c) =
+    ap (map letter) (letter_in_place c big is.word) ∙ own_letters (encode_utf8_all (spell c)) is.own in
+    (spell c, same, of_words (spell c) (word_letters c is.word), subst IsUtf8 (sym same) is.utf8)
 
 simple_words : (c : ℕ) → IsSimple c → HaveWords (in_place c)
 simple_words c simple = elim (cases_lt c 128) [

@@ -18,7 +18,7 @@ use Rattle.lic_columns.proofs.MarkLemmas.{same_at, middle_at, kept_at, length-ke
 
 -- ---- words and marks are apart
 
-apart_byte : (b : ℕ) → (is_word b && is_mark b) ≡ false
+pub apart_byte : (b : ℕ) → (is_word b && is_mark b) ≡ false
 apart_byte b = go (kind_of b) (ltb b 128)
   where
     go : (k : Kind) (t : Bool) → ((not t || is_word_kind k) && (t && is_mark_kind k)) ≡ false

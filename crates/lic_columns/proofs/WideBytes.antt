@@ -1,19 +1,26 @@
 -- The bytes of characters beyond ASCII.
-use Rattle.std.proofs.Common.{◌≡◌, ℕ, ◌+◌, ◌-◌, ◌*◌, ◌/◌, ◌%◌, ◌<◌, ◌≤◌, true, List, [], ◌∷◌, ◌++◌, length, replicate, get_or, take, drop, inl, inr, refl, sym, ap, ap₂, subst, ◌∙◌, arith}
-use Rattle.std.specs.Char.{encode_utf8, len_utf8}
-use Rattle.std.specs.Prelude.{nat_lt, if◌then◌else◌, IsUtf8}
+use Rattle.std.proofs.Common.{◌≡◌, ℕ, ◌+◌, ◌-◌, ◌*◌, ◌/◌, ◌%◌, ◌<◌, ◌≤◌, ◌||◌, true, List, All, [], ◌∷◌, ◌++◌, length, replicate, get_or, take, drop, inl, inr, refl, sym, ap, ap₂, subst, ◌∙◌, arith}
+use Rattle.std.specs.Char.{encode_utf8, len_utf8, to_ascii_lowercase}
+use Rattle.std.specs.List.{AllByRecursion}
+use Rattle.std.specs.Prelude.{nat_lt, if◌then◌else◌, encode_utf8_all, IsUtf8}
 use Rattle.std.proofs.lemmas.Bool.{false≢true, cases_lt, cond-false, le-ltb}
-use Rattle.std.proofs.lemmas.Str.{length-encode, len_utf8_ascii, IsUtf8-encode}
+use Rattle.std.proofs.lemmas.Str.{encode_ascii, length-encode, len_utf8_ascii, IsUtf8-encode, IsUtf8-from_ascii}
+use Rattle.std.proofs.lemmas.Str.Ascii.{IsAscii-cons, IsAscii-nil}
+use Rattle.std.proofs.lemmas.List.{append-nil}
+use Rattle.std.proofs.lemmas.List.Elements.{All-head, All-tail}
 use Rattle.std.proofs.Math.Seq.{take-append_seam}
 use Rattle.std.proofs.Math.Utf8.{scalar}
 use Rattle.lic_kind.specs.declared.Kind.TheVariants as kind
-use Rattle.lic_kind.specs.Kinds.{is_dash, is_quote, is_word_kind, kind_of, spell}
+use Rattle.lic_kind.specs.Kinds.{is_dash, is_quote, is_mark_kind, is_word_kind, kind_of, spell}
 use Rattle.lic_kind.proofs.KindLemmas.{kind_of-dash, kind_of-quote}
-use Rattle.lic_kind.proofs.LetterLemmas.{spell-dash, spell-quote}
-use Rattle.lic_columns.specs.Simple.{AreOwn, IsSimple, IsSimpleLetter, in_place}
+use Rattle.lic_kind.proofs.LetterLemmas.{spell-dash, spell-quote, word_letters}
+use Rattle.lic_kind.proofs.WordFoldings.{spell-ascii}
+use Rattle.lic_columns.specs.Bytes as bytes
+use Rattle.lic_columns.specs.Simple.{AreOwn, IsOwnLetter, IsSimple, in_place}
 use Rattle.lic_columns.proofs.SpelledFronts.{char_put}
 use Rattle.lic_columns.proofs.FirstBytes.{encoded_two, encoded_three}
-use Rattle.lic_columns.proofs.WideTexts.{blank_in_place, letter_in_place, mark_in_place}
+use Rattle.lic_columns.proofs.WideTexts.{blank_in_place, encoded_own, letter_in_place, mark_in_place, or-true}
+use Rattle.lic_columns.proofs.LineTokens.{letter_is}
 
 -- the character of two bytes
 pub two_is : (a b c : ℕ) → 194 ≤ a → a ≤ 223 → 128 ≤ b → b ≤ 191 → c ≡ (a - 192) * 64 + (b - 128) → encode_utf8 c ≡ a ∷ b ∷ []
@@ -96,25 +103,64 @@ wide_high c letter big same = elim (cases_lt letter 128) [
   | inr high ↦ high
 ]
 
-abbrev simple_letter : (c w letter : ℕ) (text : List ℕ) → 128 ≤ c → w ≡ len_utf8 c → len_utf8 letter ≡ w → kind_of c ≡ kind.Word → spell c ≡ letter ∷ []
-    → IsUtf8 text → text ≡ encode_utf8 letter → IsSimpleLetter c
-simple_letter c w letter text big width same word spelled utf8 is = record {
-  word = word;
-  letter = letter;
-  spelled = spelled;
-  high = wide_high c letter big (same ∙ width);
-  utf8 = subst IsUtf8 is utf8;
-  width = same ∙ width;
-}
+one_encoded : (c letter : ℕ) → spell c ≡ letter ∷ [] → encode_utf8_all (spell c) ≡ encode_utf8 letter
+one_encoded c letter spelled = ap encode_utf8_all spelled ∙ append-nil (encode_utf8 letter)
 
 pub letter_simple : (c w letter : ℕ) (text : List ℕ) → 128 ≤ c → w ≡ len_utf8 c → len_utf8 letter ≡ w → kind_of c ≡ kind.Word → spell c ≡ letter ∷ []
     → IsUtf8 text → text ≡ encode_utf8 letter → IsSimple c
-letter_simple c w letter text big width same word spelled utf8 is = inr (inl (simple_letter c w letter text big width same word spelled utf8 is))
+letter_simple c w letter text big width same word spelled utf8 is =
+    let all : encode_utf8_all (spell c) ≡ encode_utf8 letter = one_encoded c letter spelled in
+    inr (inl (record {
+      word = word;
+      utf8 = subst IsUtf8 (is ∙ sym all) utf8;
+      width = ap length all ∙ length-encode letter ∙ same ∙ width;
+      own = subst (AllByRecursion IsOwnLetter) (sym all) (encoded_own letter (wide_high c letter big (same ∙ width)));
+    }))
 
-pub letter_added : (c w letter : ℕ) (text old new : List ℕ) → 128 ≤ c → w ≡ len_utf8 c → len_utf8 letter ≡ w → kind_of c ≡ kind.Word
-    → spell c ≡ letter ∷ [] → IsUtf8 text → text ≡ encode_utf8 letter → new ≡ old ++ text → new ≡ old ++ in_place c
-letter_added c w letter text old new big width same word spelled utf8 is added =
-    added ∙ ap (λ l. old ++ l) (is ∙ sym (letter_in_place c big (simple_letter c w letter text big width same word spelled utf8 is)))
+pub letter_added : (c letter : ℕ) (text old new : List ℕ) → 128 ≤ c → kind_of c ≡ kind.Word → spell c ≡ letter ∷ [] → text ≡ encode_utf8 letter
+    → new ≡ old ++ text → new ≡ old ++ in_place c
+letter_added c letter text old new big word spelled is added =
+    added ∙ ap (λ l. old ++ l) (is ∙ sym (one_encoded c letter spelled) ∙ sym (letter_in_place c big word))
+
+-- ---- two letters of ASCII in the place of a word character
+
+small_own : (d : ℕ) → d < 128 → to_ascii_lowercase d ≡ d → kind_of d ≡ kind.Word → IsOwnLetter d
+small_own d small own word = (
+  ap (λ k. bytes.is_high d || is_word_kind k) word ∙ or-true (bytes.is_high d),
+  letter_is d (to_ascii_lowercase d) small (spell-ascii d word small) (ap (λ k. is_word_kind k || is_mark_kind k) word) ∙ own,
+)
+
+pair_encoded : (c one two : ℕ) → spell c ≡ one ∷ two ∷ [] → one < 128 → two < 128 → encode_utf8_all (spell c) ≡ one ∷ two ∷ []
+pair_encoded c one two spelled one_small two_small =
+    ap encode_utf8_all spelled ∙ ap₂ (λ k l. k ++ (l ++ [])) (encode_ascii one one_small) (encode_ascii two two_small)
+
+pub pair_is : (l : List ℕ) (a b : ℕ) → 2 ≤ length l → length l < 3 → a ≡ get_or l 0 a → b ≡ get_or l 1 b → l ≡ a ∷ b ∷ []
+pair_is [] a b many few a_is b_is = absurd (omega (arith, many))
+pair_is (x ∷ []) a b many few a_is b_is = absurd (omega (arith, many))
+pair_is (x ∷ y ∷ []) a b many few a_is b_is = ap₂ (λ m n. m ∷ n ∷ []) (sym a_is) (sym b_is)
+pair_is (x ∷ y ∷ z ∷ l) a b many few a_is b_is = absurd (omega (arith, few))
+
+pub pair_simple : (c one two : ℕ) → len_utf8 c ≡ 2 → kind_of c ≡ kind.Word → spell c ≡ one ∷ two ∷ [] → one < 128 → two < 128
+    → to_ascii_lowercase one ≡ one → to_ascii_lowercase two ≡ two → IsSimple c
+pair_simple c one two width word spelled one_small two_small one_own two_own =
+    let all : encode_utf8_all (spell c) ≡ one ∷ two ∷ [] = pair_encoded c one two spelled one_small two_small in
+    let is_word : (ℕ → Type 0) = λ d. kind_of d ≡ kind.Word in
+    let words : All is_word (one ∷ two ∷ []) = subst (All is_word) spelled (word_letters c word) in
+    let ascii = IsAscii-cons one (two ∷ []) one_small (IsAscii-cons two [] two_small IsAscii-nil) in
+    inr (inl (record {
+      word = word;
+      utf8 = subst IsUtf8 (sym all) (IsUtf8-from_ascii (one ∷ two ∷ []) ascii);
+      width = ap length all ∙ sym width;
+      own = subst (AllByRecursion IsOwnLetter) (sym all) (
+        small_own one one_small one_own (All-head is_word one (two ∷ []) words),
+        (small_own two two_small two_own (All-head is_word two [] (All-tail is_word one (two ∷ []) words)), tt),
+      );
+    }))
+
+pub pair_added : (c one two : ℕ) (old new : List ℕ) → 128 ≤ c → kind_of c ≡ kind.Word → spell c ≡ one ∷ two ∷ [] → one < 128 → two < 128
+    → new ≡ old ++ one ∷ two ∷ [] → new ≡ old ++ in_place c
+pair_added c one two old new big word spelled one_small two_small added =
+    added ∙ ap (λ l. old ++ l) (sym (pair_encoded c one two spelled one_small two_small) ∙ sym (letter_in_place c big word))
 
 -- a word character that is its own letter stays as it is
 pub letter_own : (c : ℕ) (bytes : List ℕ) → scalar c ≡ true → 128 ≤ c → kind_of c ≡ kind.Word → spell c ≡ c ∷ [] → len_utf8 c ≤ length bytes
@@ -129,5 +175,5 @@ letter_own c bytes is_scalar big word spelled within parts =
           char_put c (len_utf8 c) bytes old (old ++ take (len_utf8 c) bytes) is_scalar
           (letter_simple c (len_utf8 c) c (encode_utf8 c) big refl refl word spelled utf8 refl) within parts
           (λ mark. absurd (false≢true (sym (ap is_word_kind (sym word ∙ mark)))))
-          (letter_added c (len_utf8 c) c (encode_utf8 c) old (old ++ take (len_utf8 c) bytes) big refl refl word spelled utf8 refl (ap (λ l. old ++ l) front));
+          (letter_added c c (encode_utf8 c) old (old ++ take (len_utf8 c) bytes) big word spelled refl (ap (λ l. old ++ l) front));
     }

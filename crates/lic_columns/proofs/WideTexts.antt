@@ -2,9 +2,10 @@
 use Rattle.std.proofs.Common.{◌≡◌, ◌⊎◌, ℕ, zero, suc, ◌+◌, ◌-◌, ◌<◌, ◌≤◌, Bool, true, false, not, ◌&&◌, ◌||◌, ◌==◌, if◌then◌else◌, List, [], ◌∷◌, ◌++◌, length, take, drop, map, get_or, inl, inr, refl, sym, ap, ap₂, ◌∙◌, arith, subst, eqb-true}
 use Rattle.std.specs.Prelude.{encode_utf8_all, replicate, nat_lt}
 use Rattle.std.specs.Char.{encode_utf8, len_utf8}
+use Rattle.std.specs.List.{AllByRecursion}
 use Rattle.std.proofs.lemmas.Bool.{cases_lt, lt-ltb, le-ltb, cond-true, cond-false}
 use Rattle.std.proofs.lemmas.List.{append-nil, length-append}
-use Rattle.std.proofs.lemmas.Str.{encode_ascii, length-encode, len_utf8_ascii, len_utf8_bounds, inside_one}
+use Rattle.std.proofs.lemmas.Str.{encode_ascii, len_utf8_ascii, len_utf8_bounds, inside_one}
 use Rattle.std.proofs.Math.Seq.{take-append_seam, drop-append_seam}
 use Rattle.lic_kind.specs.declared.Kind.TheVariants as kind
 use Rattle.lic_kind.specs.Kinds.{kind_of, is_word_kind, is_mark_kind, is_quote, is_dash, spell}
@@ -19,10 +20,11 @@ use Rattle.lic_lines.proofs.Gaps.{is_word, is_mark}
 use Rattle.lic_columns.specs.Bytes as bytes
 use Rattle.lic_columns.specs.Bytes.{letter}
 use Rattle.lic_columns.specs.Marks.{is_joining}
-use Rattle.lic_columns.specs.Simple.{IsSimpleLetter, IsSimpleMark, IsSimple, AreSimple, in_place, in_place_of, all_in_place}
+use Rattle.lic_columns.specs.Simple.{IsOwnLetter, IsSimpleLetter, IsSimpleMark, IsSimple, AreSimple, in_place, in_place_of, all_in_place}
 use Rattle.lic_columns.proofs.SpanLemmas.{CellFits}
 use Rattle.lic_columns.proofs.FlagCells.{words, marks}
 use Rattle.lic_columns.proofs.LineTokens.{letter_is, byte_char, byte_fits, word_flag, mark_flag}
+use Rattle.lic_columns.proofs.TextLemmas.{apart_byte}
 use Rattle.lic_columns.proofs.WideTokens.{IsWide, WideFit, pieces, exploded}
 
 -- ---- bytes beyond ASCII
@@ -45,15 +47,8 @@ high_letter : (b : ℕ) → 128 ≤ b → letter b ≡ b
 high_letter b big =
     cond-false (bytes.has_letter b) _ _ (ap (λ t. t && (is_word_kind (kind_of b) || is_mark_kind (kind_of b))) (le-ltb b 128 big))
 
-high_letters : (l : List ℕ) → AreHigh l → map letter l ≡ l
-high_letters [] h = refl
-high_letters (b ∷ bs) h = ap₂ (λ x l. x ∷ l) (high_letter b h.0) (high_letters bs h.1)
-
 high_word : (b : ℕ) → 128 ≤ b → bytes.is_word b ≡ true
 high_word b big = ap (λ t. not t || is_word_kind (kind_of b)) (le-ltb b 128 big)
-
-high_mark : (b : ℕ) → 128 ≤ b → bytes.is_mark b ≡ false
-high_mark b big = ap (λ t. t && is_mark_kind (kind_of b)) (le-ltb b 128 big)
 
 pub differs : (a n : ℕ) → (a ≡ n → ⊥) → (a == n) ≡ false
 differs a n h = go (a == n) refl
@@ -62,10 +57,46 @@ differs a n h = go (a == n) refl
     go false e = refl
     go true e = absurd (h (eqb-true a n e))
 
-high_plain : (b : ℕ) → 128 ≤ b → is_joining (letter b) ≡ false
-high_plain b big =
-    ap is_joining (high_letter b big)
-    ∙ ap₂ (λ t u. t || u) (differs b 0x27 (λ e. omega (arith, e))) (differs b 0x2D (λ e. omega (arith, e)))
+all_own : (l : List ℕ) → AreHigh l → AllByRecursion IsOwnLetter l
+all_own [] h = tt
+all_own (b ∷ bs) h = ((high_word b h.0, high_letter b h.0), all_own bs h.1)
+
+pub encoded_own : (c : ℕ) → 128 ≤ c → AllByRecursion IsOwnLetter (encode_utf8 c)
+encoded_own c big = all_own (encode_utf8 c) (encoded_high c big)
+
+-- ---- bytes of words that are their own letters
+
+own_at : (l : List ℕ) → AllByRecursion IsOwnLetter l → (k : ℕ) → k < length l → IsOwnLetter (get_or l k 0)
+own_at [] h k lt = absurd (omega arith)
+own_at (b ∷ bs) h zero lt = h.0
+own_at (b ∷ bs) h (suc k) lt = own_at bs h.1 k (omega arith)
+
+pub own_letters : (l : List ℕ) → AllByRecursion IsOwnLetter l → map letter l ≡ l
+own_letters [] h = refl
+own_letters (b ∷ bs) h = ap₂ (λ x l. x ∷ l) h.0.1 (own_letters bs h.1)
+
+word_mark : (b : ℕ) → bytes.is_word b ≡ true → bytes.is_mark b ≡ false
+word_mark b word = ap (λ t. t && bytes.is_mark b) (sym word) ∙ apart_byte b
+
+quote_word : bytes.is_word 0x27 ≡ false
+unfolding kind_of
+quote_word = refl
+
+dash_word : bytes.is_word 0x2D ≡ false
+unfolding kind_of
+dash_word = refl
+
+no_word : (b n : ℕ) → bytes.is_word b ≡ true → bytes.is_word n ≡ false → b ≡ n → ⊥
+no_word b n word none same = let clash : true ≡ false = sym word ∙ ap bytes.is_word same ∙ none in cc
+
+own_plain : (b : ℕ) → IsOwnLetter b → is_joining (letter b) ≡ false
+own_plain b is =
+    ap is_joining is.1
+    ∙ ap₂ (λ t u. t || u) (differs b 0x27 (no_word b 0x27 is.0 quote_word)) (differs b 0x2D (no_word b 0x2D is.0 dash_word))
+
+first_plain : (l rest : List ℕ) → AllByRecursion IsOwnLetter l → 0 < length l → is_joining (letter (get_or (l ++ rest) 0 0)) ≡ false
+first_plain [] rest h some = absurd (omega arith)
+first_plain (b ∷ bs) rest h some = own_plain b h.0
 
 -- ---- texts
 
@@ -147,36 +178,23 @@ size_is c = omega (arith, (len_utf8_bounds c).0)
 letter_cell : (c at : ℕ) → kind_of c ≡ kind.Word → cell_of (byte_char at c) ≡ Word (byte_char at c)
 letter_cell c at is = ap (λ k. if is_word_kind k then Word (byte_char at c) else (if is_mark_kind k then Mark (byte_char at c) else Blank)) is
 
-pub letter_in_place : (c : ℕ) → 128 ≤ c → (is : IsSimpleLetter c) → in_place c ≡ encode_utf8 is.letter
-letter_in_place c big is =
-    cond-false (nat_lt c 128) _ _ (le-ltb c 128 big) ∙ ap (λ k. in_place_of k c) is.word
-    ∙ ap encode_utf8_all is.spelled ∙ append-nil (encode_utf8 is.letter)
+pub letter_in_place : (c : ℕ) → 128 ≤ c → kind_of c ≡ kind.Word → in_place c ≡ encode_utf8_all (spell c)
+letter_in_place c big word = cond-false (nat_lt c 128) _ _ (le-ltb c 128 big) ∙ ap (λ k. in_place_of k c) word
 
-high_at : (l : List ℕ) → AreHigh l → (k : ℕ) → k < length l → 128 ≤ get_or l k 0
-high_at [] h k lt = absurd (omega arith)
-high_at (b ∷ bs) h zero lt = h.0
-high_at (b ∷ bs) h (suc k) lt = high_at bs h.1 k (omega arith)
-
-first_high : (l rest : List ℕ) → AreHigh l → 0 < length l → is_joining (letter (get_or (l ++ rest) 0 0)) ≡ false
-first_high [] rest h some = absurd (omega arith)
-first_high (b ∷ bs) rest h some = high_plain b h.0
-
-letter_run : (at c : ℕ) (is : IsSimpleLetter c) → 128 ≤ c → IsRun at (more_of c) (encode_utf8 is.letter) (Word (byte_char at c))
-letter_run at c is big =
-    let t = encode_utf8 is.letter in
-    let high = encoded_high is.letter is.high in
-    let size : length t ≡ suc (more_of c) = length-encode is.letter ∙ is.width ∙ size_is c in
+letter_run : (at c : ℕ) → IsSimpleLetter c → IsRun at (more_of c) (encode_utf8_all (spell c)) (Word (byte_char at c))
+letter_run at c is =
+    let t = encode_utf8_all (spell c) in
+    let size : length t ≡ suc (more_of c) = is.width ∙ size_is c in
     record {
       size = size;
       wide = λ rest. record {
         start = refl;
         end = ap (λ n. at + n) (size_is c);
-        text = ap encode_utf8_all is.spelled ∙ append-nil t ∙ sym (high_letters t high)
-            ∙ ap (map letter) (sym (take-append_seam t rest) ∙ ap (λ n. take n (t ++ rest)) size);
-        plain = first_high t rest high (omega (arith, size));
+        text = sym (own_letters t is.own) ∙ ap (map letter) (sym (take-append_seam t rest) ∙ ap (λ n. take n (t ++ rest)) size);
+        plain = first_plain t rest is.own (omega (arith, size));
       };
-      words = λ k lt. high_word (get_or t k 0) (high_at t high k lt);
-      marks = λ k lt. high_mark (get_or t k 0) (high_at t high k lt);
+      words = λ k lt. (own_at t is.own k lt).0;
+      marks = λ k lt. word_mark (get_or t k 0) (own_at t is.own k lt).0;
     }
 
 -- ---- white space
@@ -280,7 +298,7 @@ pub record IsJoined (at c : ℕ) : Type 0 where
   pub run : IsRun at (more_of c) (replicate (len_utf8 c) letter) (Mark (byte_char at c))
   pub mark : bytes.is_mark letter ≡ true
 
-or-true : (t : Bool) → (t || true) ≡ true
+pub or-true : (t : Bool) → (t || true) ≡ true
 or-true true = refl
 or-true false = refl
 
@@ -352,7 +370,7 @@ module _ (at c : ℕ) (cs : List ℕ)
     | inr big ↦ elim simple [
       | inl small ↦ small_step small
       | inr other ↦ elim other [
-        | inl is ↦ run_step (encode_utf8 is.letter) (Word (byte_char at c)) (letter_in_place c big is) (letter_cell c at is.word) (letter_run at c is big)
+        | inl is ↦ run_step (encode_utf8_all (spell c)) (Word (byte_char at c)) (letter_in_place c big is.word) (letter_cell c at is.word) (letter_run at c is)
         | inr more ↦ elim more [
           | inl is ↦ run_step (replicate (len_utf8 c) 0x20) Blank (blank_in_place c big is) (blank_cell_is c at is) (blank_run at c)
           | inr is ↦ mark_step big is
@@ -421,8 +439,8 @@ shape_of c simple = elim (cases_lt c 128) [
   | inr big ↦ elim simple [
     | inl small ↦ absurd (omega (arith, small, big))
     | inr other ↦ elim other [
-      | inl is ↦ inr (inl (plain_shape c (encode_utf8 is.letter) (λ at. Word (byte_char at c)) big (letter_in_place c big is)
-          (λ at. letter_cell c at is.word) (λ at. refl) (letter_run 0 c is big)))
+      | inl is ↦ inr (inl (plain_shape c (encode_utf8_all (spell c)) (λ at. Word (byte_char at c)) big (letter_in_place c big is.word)
+          (λ at. letter_cell c at is.word) (λ at. refl) (letter_run 0 c is)))
       | inr more ↦ elim more [
         | inl is ↦ inr (inl (plain_shape c (replicate (len_utf8 c) 0x20) (λ at. Blank) big (blank_in_place c big is)
             (λ at. blank_cell_is c at is) (λ at. refl) (blank_run 0 c)))

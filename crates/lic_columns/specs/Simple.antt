@@ -1,6 +1,6 @@
 -- Texts of simple characters: those that are spelled byte for byte.
 use Rattle.std.specs.Prelude.{◌≡◌, true, ◌⊎◌, ℕ, ◌<◌, ◌≤◌, if◌then◌else◌, nat_lt, List, [], ◌∷◌, ◌++◌, replicate, length, drop, take, chars, IsUtf8, encode_utf8_all}
-use Rattle.std.specs.Char.{encode_utf8, len_utf8}
+use Rattle.std.specs.Char.{len_utf8}
 use Rattle.std.proofs.Math.Utf8.{scalars}
 use Rattle.std.specs.List.{AllByRecursion, flat_map}
 use Rattle.lic_kind.specs.Kinds.{is_dash, is_quote, kind_of, letter_of, spell}
@@ -11,22 +11,25 @@ use Rattle.lic_trim.specs.Sources.{chars_of, lines_of}
 use Rattle.lic_trim.specs.Spaces.{TakesSpaces}
 use Rattle.lic_kind.specs.declared.Kind.{Kind}
 use Rattle.lic_kind.specs.declared.Kind.TheVariants.{Blank, Dropped, Mark, Word}
+use Rattle.lic_columns.specs.Bytes.{is_word, letter}
 
--- a word character with one letter, which takes as many bytes
+-- a byte of a word that is its own letter
+abbrev pub IsOwnLetter : ℕ → Type 0
+IsOwnLetter b = (is_word b ≡ true) × (letter b ≡ b)
+
+-- a word character whose letters take as many bytes as it does, each of these its own letter
 pub record IsSimpleLetter (c : ℕ) : Type 0 where
   pub word : kind_of c ≡ Word
-  pub letter : ℕ
-  pub spelled : spell c ≡ letter ∷ []
-  pub high : 128 ≤ letter
-  pub utf8 : IsUtf8 (encode_utf8 letter)
-  pub width : len_utf8 letter ≡ len_utf8 c
+  pub utf8 : IsUtf8 (encode_utf8_all (spell c))
+  pub width : length (encode_utf8_all (spell c)) ≡ len_utf8 c
+  pub own : AllByRecursion IsOwnLetter (encode_utf8_all (spell c))
 
 -- a quote or a dash of at most three bytes
 pub record IsSimpleMark (c : ℕ) : Type 0 where
   pub joins : (is_quote c ≡ true) ⊎ (is_dash c ≡ true)
   pub width : len_utf8 c ≤ 3
 
--- a character of ASCII, or beyond it a letter of words, white space, a quote or a dash
+-- a character of ASCII, or beyond it a word character of such letters, white space, a quote or a dash
 abbrev pub IsSimple : ℕ → Type 0
 IsSimple c = (c < 128) ⊎ IsSimpleLetter c ⊎ (kind_of c ≡ Blank) ⊎ IsSimpleMark c
 

@@ -1,7 +1,7 @@
 //! Characters beyond ASCII, spelled byte for byte.
 ghost use Rattle.std.specs.Prelude.{◌≡◌, ◌<◌, ◌≤◌, ◌++◌, ◌∷◌, [], drop, length, map, nat_le, replicate, slice_index, IfOk, IfSome, IsTrue, OnOk, false};
 ghost use Rattle.std.specs.Simd.Lanes.{mask_l};
-ghost use Rattle.std.specs.Char.{encode_utf8, len_utf8};
+ghost use Rattle.std.specs.Char.{encode_utf8, len_utf8, to_ascii_lowercase};
 ghost use Rattle.lic_kind.specs.Kinds.{kind_of, spell};
 ghost use Rattle.lic_columns.specs.Simple.{ArePut, AreOwn, IsNoFront, IsSimple, in_place};
 
@@ -126,7 +126,41 @@ fn one_letter(alloc: Global, c: char) -> Result<Option<char>, AllocError>
     }
 }
 
-/// Adds the letter of a word character beyond ASCII of so many bytes, if it has one, with as many bytes.
+/// Whether a letter is of ASCII, and its own.
+fn is_small(letter: char) -> bool
+    ensures ascii { IsTrue result → letter < 128 }
+    ensures own { IsTrue result → to_ascii_lowercase letter ≡ letter }
+{
+    letter.is_ascii() && letter.to_ascii_lowercase() == letter
+}
+
+/// Adds the letters of a word character beyond ASCII of so many bytes, if it has two bytes, and two letters of ASCII.
+#[tactic(auto, using(crate::proofs::WideBytes::pair_added, crate::proofs::WideBytes::pair_simple))]
+fn push_pair(
+    alloc: Global,
+    spelled: &mut Vec<u8>,
+    c: char,
+    width: usize,
+) -> Result<bool, AllocError>
+    requires beyond { 128 ≤ c }
+    requires word { kind_of c ≡ Kind.Word }
+    requires width { width ≡ len_utf8 c }
+    ensures simple { IfOk result (λ known. IsTrue known → IsSimple c) }
+    ensures added { IfOk result (λ known. IsTrue known → spelled.new.items ≡ spelled.old.items ++ in_place c) }
+    ensures same { IfOk result (λ known. known ≡ false → spelled.new.items ≡ spelled.old.items) }
+{
+    let letters = spell(alloc, c)?;
+    let [one, two] = letters.as_slice() else {
+        return Ok(false);
+    };
+    if width != 2 || !is_small(*one) || !is_small(*two) {
+        return Ok(false);
+    }
+    spelled.extend_from_slice(&[*one as u8, *two as u8])?;
+    Ok(true)
+}
+
+/// Adds the letters of a word character beyond ASCII of so many bytes, if it has one of as many bytes, or two of one byte.
 #[inline(always)]
 #[tactic(auto, using(crate::proofs::WideBytes::letter_added, crate::proofs::WideBytes::letter_simple))]
 fn push_letter(
@@ -143,7 +177,7 @@ fn push_letter(
     ensures same { IfOk result (λ known. known ≡ false → spelled.new.items ≡ spelled.old.items) }
 {
     let Some(letter) = one_letter(alloc, c)? else {
-        return Ok(false);
+        return push_pair(alloc, spelled, c, width);
     };
     if letter.len_utf8() != width {
         return Ok(false);
