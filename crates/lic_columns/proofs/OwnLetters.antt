@@ -20,7 +20,7 @@ use Rattle.lic_kind.proofs.KindLemmas.{is_word_kind-true}
 use Rattle.lic_kind.proofs.PlainWords.{words_without_case, letters_without_case}
 use Rattle.lic_kind.proofs.WordFoldings.{spell-folding}
 use Rattle.lic_trim.proofs.ItemLemmas.{in_range}
-use Rattle.lic_columns.specs.declared.own.TheConstants.{TWO_FIRST_LOW, TWO_FIRST_HIGH, TWO_SECOND_LOW, TWO_SECOND_HIGH, THREE_FIRST_LOW, THREE_FIRST_HIGH, THREE_SECOND_LOW, THREE_SECOND_HIGH}
+use Rattle.lic_columns.specs.declared.wide.own.TheConstants.{TWO_FIRST_LOW, TWO_FIRST_HIGH, TWO_SECOND_LOW, TWO_SECOND_HIGH, THREE_FIRST_LOW, THREE_FIRST_HIGH, THREE_SECOND_LOW, THREE_SECOND_HIGH}
 use Rattle.lic_columns.specs.OwnLetters.{are_common, begins_two, begins_three, class_in, goes_on}
 use Rattle.lic_columns.specs.Simple.{AreOwn}
 use Rattle.lic_columns.proofs.Lanes.{below, every_below}

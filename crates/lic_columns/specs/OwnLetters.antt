@@ -1,6 +1,6 @@
 -- Letters beyond ASCII that stay as they are, by classes of their first two bytes.
 use Rattle.std.specs.Prelude.{ℕ, ◌/◌, Bool, not, ◌&&◌, ◌==◌, nat_le, nat_lt, List, bit_and, slice_index}
-use Rattle.lic_columns.specs.declared.own.TheConstants.{TWO_FIRST_LOW, TWO_FIRST_HIGH, TWO_SECOND_LOW, TWO_SECOND_HIGH, THREE_FIRST_LOW, THREE_FIRST_HIGH, THREE_SECOND_LOW, THREE_SECOND_HIGH}
+use Rattle.lic_columns.specs.declared.wide.own.TheConstants.{TWO_FIRST_LOW, TWO_FIRST_HIGH, TWO_SECOND_LOW, TWO_SECOND_HIGH, THREE_FIRST_LOW, THREE_FIRST_HIGH, THREE_SECOND_LOW, THREE_SECOND_HIGH}
 
 -- the classes of a byte: those that one table has for its low half, and another for its high half
 abbrev pub class_in : List ℕ → List ℕ → ℕ → ℕ

@@ -2,7 +2,6 @@
 #![tactic(auto)]
 
 mod block;
-mod chars;
 mod columns;
 mod edges;
 mod flags;
@@ -10,7 +9,6 @@ pub mod laws;
 mod lines;
 mod marks;
 mod mask;
-mod own;
 mod places;
 mod plain;
 mod tokens;

@@ -6,7 +6,7 @@ ghost use Rattle.lic_trim.specs.Spaces.{TakesSpaces};
 ghost use Rattle.lic_columns.specs.PlainLines.{ArePlainLines, IsPlainLine};
 ghost use Rattle.lic_columns.specs.Simple.{ArePut, IsSpelled};
 
-use crate::chars::{char_at_end, char_at_start};
+use crate::wide::chars::{char_at_end, char_at_start};
 use crate::wide::spell_front;
 use lic_lines::Rules;
 use lic_trim::{keeps_all, takes_spaces};

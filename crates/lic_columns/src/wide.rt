@@ -5,8 +5,11 @@ ghost use Rattle.std.specs.Char.{encode_utf8, len_utf8, to_ascii_lowercase};
 ghost use Rattle.lic_kind.specs.Kinds.{kind_of, spell};
 ghost use Rattle.lic_columns.specs.Simple.{ArePut, AreOwn, IsNoFront, IsSimple, in_place};
 
-use crate::chars::first_char;
-use crate::own::letters_front;
+pub(crate) mod chars;
+mod own;
+
+use crate::wide::chars::first_char;
+use crate::wide::own::letters_front;
 use lic_kind::{Kind, is_dash, is_quote, kind_of, spell, word_letter};
 use std::alloc::{AllocError, Global};
 use std::simd::prelude::*;

@@ -1,5 +1,5 @@
 use Rattle.lic_columns.proofs.OwnLanes.{classes_are, high_fits, low_fits}
-use Rattle.lic_columns.proofs.own.classes.Goals as goal
+use Rattle.lic_columns.proofs.wide.own.classes.Goals as goal
 
 pub swizzle-by_low : goal.swizzle-by_low
 swizzle-by_low c = low_fits c.args.bytes c.fits-bytes

@@ -3,7 +3,7 @@ use Rattle.std.proofs.lemmas.Simd.{get_or-zip2, length-zip2, zip2_splat}
 use lib.Lanes.{zip2}
 use Rattle.lic_columns.proofs.Lanes.{all_ones}
 use Rattle.lic_columns.proofs.OwnLanes.{bit_compared, bit_past}
-use Rattle.lic_columns.proofs.own.common_places.Goals as goal
+use Rattle.lic_columns.proofs.wide.own.common_places.Goals as goal
 
 abbrev differs : ℕ → ℕ → ℕ
 differs a b = all_ones (not (eqb a b))

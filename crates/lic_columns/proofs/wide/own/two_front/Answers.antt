@@ -1,5 +1,5 @@
 use Rattle.lic_columns.proofs.OwnRuns.{two_run, two_top}
-use Rattle.lic_columns.proofs.own.two_front.Goals as goal
+use Rattle.lic_columns.proofs.wide.own.two_front.Goals as goal
 
 pub first_zero-requires : goal.first_zero-requires
 first_zero-requires c =

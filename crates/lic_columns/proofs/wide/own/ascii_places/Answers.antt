@@ -2,7 +2,7 @@ use Rattle.std.proofs.Common.{ℕ, ltb, arith}
 use Rattle.std.proofs.lemmas.Simd.{zip2_splat}
 use Rattle.lic_columns.proofs.Lanes.{all_ones}
 use Rattle.lic_columns.proofs.OwnLanes.{bit_compared, bit_past}
-use Rattle.lic_columns.proofs.own.ascii_places.Goals as goal
+use Rattle.lic_columns.proofs.wide.own.ascii_places.Goals as goal
 
 abbrev less : ℕ → ℕ → ℕ
 less a b = all_ones (ltb a b)

@@ -4,7 +4,7 @@ use Rattle.std.proofs.lemmas.Simd.{map-map, zip2_splat}
 use lib.Lanes.{zip2}
 use Rattle.lic_columns.proofs.Lanes.{all_ones, lane_fits}
 use Rattle.lic_columns.proofs.OwnLanes.{bit_compared, is_on, is_on-goes_on}
-use Rattle.lic_columns.proofs.own.places_on.Goals as goal
+use Rattle.lic_columns.proofs.wide.own.places_on.Goals as goal
 
 abbrev moved : ℕ → ℕ → ℕ
 moved a b = (a + (2 ^ 8 - b)) % 2 ^ 8

@@ -1,5 +1,5 @@
 use Rattle.lic_columns.proofs.OwnRuns.{three_run, three_top}
-use Rattle.lic_columns.proofs.own.three_front.Goals as goal
+use Rattle.lic_columns.proofs.wide.own.three_front.Goals as goal
 
 pub first_zero-requires : goal.first_zero-requires
 first_zero-requires c =

@@ -1,6 +1,6 @@
 use Rattle.std.proofs.Common.{◌≡◌, ℕ, ◌+◌, ◌-◌, ◌*◌, arith}
 use Rattle.lic_columns.proofs.WideBytes.{three_is}
-use Rattle.lic_columns.proofs.chars.char_of_three.Goals as goal
+use Rattle.lic_columns.proofs.wide.chars.char_of_three.Goals as goal
 
 pub returns-clause-bytes : goal.returns-clause-bytes
 returns-clause-bytes c =
