@@ -244,6 +244,8 @@ fn put_token(
     ensures held { AreInBatch stretch.now i rewriting.now batch.new result }
 {
     let next = state.next;
+    let start = stretch.start(next);
+    let end = stretch.end(next);
     let blank = state.after_word & is_word_at(text, 0);
     let place = put(
         &mut batch.bytes,
@@ -255,8 +257,8 @@ fn put_token(
     );
     batch.entries[next - i] = Entry {
         text_end: before + place,
-        start: stretch.start(next),
-        end: stretch.end(next),
+        start,
+        end,
     };
     Spelled {
         next: next + 1,

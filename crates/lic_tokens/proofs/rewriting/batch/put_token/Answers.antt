@@ -66,11 +66,11 @@ returns-clause-held c =
     ∙ ap (λ l. so_far ++ (blank_if parted ++ l)) (sym c.requires.front) in
     let token : Token = record {
       text = text;
-      start = c.start.result;
-      end = c.end.result;
+      start = c.start-start.result;
+      end = c.end-end.result;
       after_blank = (get_or tokens state.next no_token).after_blank;
     } in
-    let entry : Entry = record { text_end = c.args.before + c.put-place.result; start = c.start.result; end = c.end.result } in
+    let entry : Entry = record { text_end = c.args.before + c.put-place.result; start = c.start-start.result; end = c.end-end.result } in
     let short : c.put-place.result ≤ 33 * (state.next + 1 - i) =
     omega (arith, c.requires.short, c.requires.most, known.from, known.short, c.put-place.ensures.place, short_blank (state.after_word && c.is_word_at.result)) in
     let long : length (take c.put-place.result c.put-place.new.bytes) ≡ c.put-place.result =
@@ -82,9 +82,9 @@ returns-clause-held c =
       holds = one_more_spelled tokens i state.next rewriting so_far (take c.put-place.result c.put-place.new.bytes) (take (state.next - i) batch.entries) _ token entry
           known.holds c.requires.none c.requires.utf8 is (λ settled taken. c.requires.left settled taken token refl)
           (token_taken tokens state.next text token.start token.end token.after_blank c.requires.within c.requires.no_sign c.requires.words
-          (c.requires.text no_token) (c.start.ensures no_token) (c.end.ensures no_token) refl)
+          (c.requires.text no_token) (c.start-start.ensures no_token) (c.end-end.ensures no_token) refl)
           grown
-          (ap₂ (λ m n. let e : Entry = record { text_end = m + n; start = c.start.result; end = c.end.result } in e) c.requires.before (sym long))
+          (ap₂ (λ m n. let e : Entry = record { text_end = m + n; start = c.start-start.result; end = c.end-end.result } in e) c.requires.before (sym long))
           (take-set_at batch.entries (state.next - i) (state.next + 1 - i) entry (omega (arith, known.from)) (omega (arith, known.from, c.requires.few)));
       word = word_is tokens i rewriting batch state text known c.requires.utf8 is c.requires.words (length text - 1) c.is_word_at-2.result
           (take c.put-place.result c.put-place.new.bytes) (omega (arith, is.not_empty)) c.is_word_at-2.ensures grown;
