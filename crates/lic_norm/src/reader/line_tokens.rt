@@ -158,12 +158,15 @@ pub fn take_ascii(
 {
     let lines = &mut buffers.lines;
     lines.read(alloc, rules, at, text)?;
+    let batch = batch_of(&mut buffers.batches)?;
     let stretch = Stretch::of(at, lines);
-    rewriting.take_stretch(alloc, &stretch, batch_of(&mut buffers.batches)?)?;
     let count = stretch.len();
-    if text.len() > MAX_KEPT {
-        *lines = Lines::new(alloc);
+    if text.len() <= MAX_KEPT {
+        rewriting.take_stretch(alloc, &stretch, batch)?;
+        return Ok(count);
     }
+    rewriting.take_lines(alloc, at, lines, batch)?;
+    *lines = Lines::new(alloc);
     Ok(count)
 }
 

@@ -19,24 +19,32 @@ take_stretch-requires-clause-texts c =
     subst HaveTexts (sym (c.of-stretch.ensures ∙ c.in_ok-read.ensures.tokens))
     (lines-texts (rules_of c.args.rules.now) (placed c.args.at c.args.text.now))
 
-pub returns-then-text-gt-MAX_KEPT-clause-taken : goal.returns-then-text-gt-MAX_KEPT-clause-taken
-returns-then-text-gt-MAX_KEPT-clause-taken c = λ taken has.
+pub take_lines-requires-clause-places : goal.take_lines-requires-clause-places
+take_lines-requires-clause-places c =
+    let read = c.in_ok-read.ensures in
+    ascii_places c.args.at c.read.new.self read.ascii read.paired read.from read.some read.to
+
+pub take_lines-requires-clause-texts : goal.take_lines-requires-clause-texts
+take_lines-requires-clause-texts c =
+    subst HaveTexts (sym c.in_ok-read.ensures.tokens) (lines-texts (rules_of c.args.rules.now) (placed c.args.at c.args.text.now))
+
+pub returns-then-text-le-MAX_KEPT-clause-taken : goal.returns-then-text-le-MAX_KEPT-clause-taken
+returns-then-text-le-MAX_KEPT-clause-taken c = λ taken has.
     let rules = rules_of c.args.rules.now in
     subst (λ ts. HasTaken c.take_stretch.new.self (taken ++ ts))
     (ap single_signs (c.of-stretch.ensures ∙ c.in_ok-read.ensures.tokens)
     ∙ first_tokens_of-ascii rules c.args.at c.args.text.now c.requires.ascii)
     (c.in_ok-take_stretch.ensures.taken taken has)
 
-pub returns-then-text-gt-MAX_KEPT-clause-count : goal.returns-then-text-gt-MAX_KEPT-clause-count
-returns-then-text-gt-MAX_KEPT-clause-count c = c.len-count.ensures ∙ ap length (c.of-stretch.ensures ∙ c.in_ok-read.ensures.tokens)
+pub returns-then-text-le-MAX_KEPT-clause-count : goal.returns-then-text-le-MAX_KEPT-clause-count
+returns-then-text-le-MAX_KEPT-clause-count c = c.len-count.ensures ∙ ap length (c.of-stretch.ensures ∙ c.in_ok-read.ensures.tokens)
 
-pub returns-else-text-gt-MAX_KEPT-clause-taken : goal.returns-else-text-gt-MAX_KEPT-clause-taken
-returns-else-text-gt-MAX_KEPT-clause-taken c = λ taken has.
+pub returns-clause-taken : goal.returns-clause-taken
+returns-clause-taken c = λ taken has.
     let rules = rules_of c.args.rules.now in
-    subst (λ ts. HasTaken c.take_stretch.new.self (taken ++ ts))
-    (ap single_signs (c.of-stretch.ensures ∙ c.in_ok-read.ensures.tokens)
-    ∙ first_tokens_of-ascii rules c.args.at c.args.text.now c.requires.ascii)
-    (c.in_ok-take_stretch.ensures.taken taken has)
+    subst (λ ts. HasTaken c.take_lines.new.self (taken ++ ts))
+    (ap single_signs c.in_ok-read.ensures.tokens ∙ first_tokens_of-ascii rules c.args.at c.args.text.now c.requires.ascii)
+    (c.in_ok-take_lines.ensures.taken taken has)
 
-pub returns-else-text-gt-MAX_KEPT-clause-count : goal.returns-else-text-gt-MAX_KEPT-clause-count
-returns-else-text-gt-MAX_KEPT-clause-count c = c.len-count.ensures ∙ ap length (c.of-stretch.ensures ∙ c.in_ok-read.ensures.tokens)
+pub returns-clause-count : goal.returns-clause-count
+returns-clause-count c = c.len-count.ensures ∙ ap length (c.of-stretch.ensures ∙ c.in_ok-read.ensures.tokens)
