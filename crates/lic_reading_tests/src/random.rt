@@ -96,6 +96,7 @@ const SIMPLE: &[&[u8]] = &[
     b"\n",
     b"\xC3\xA9t\xC3\xA9",
     b"\xC3\x89",
+    b"gro\xC3\x9F",
     b"\xD0\x96\xD0\xB8",
     b"\xCE\xA3",
     b"\xE4\xB8\xAD\xE6\x96\x87",
