@@ -108,10 +108,10 @@ optional_light r light = record {
 }
 
 -- a node that could be made is the answer
-pub node_told : {E : Type 0} (r : Option Node) (e : E) (core : Core) (Q : Word → Type 0) → AreSame (WordsOf core) Q →
+pub node_given : {E : Type 0} (r : Option Node) (e : E) (core : Core) (Q : Word → Type 0) → AreSame (WordsOf core) Q →
     IfSome r (IsBuilt core) → IfOk (ok_or r e) (HasWords Q)
-node_told None e core Q same built = tt
-node_told (Some node) e core Q same built = record {
+node_given None e core Q same built = tt
+node_given (Some node) e core Q same built = record {
   words = subst (λ r. AreSame (WordsOf r) Q) (sym built.core) same;
   measured = built.measured;
 }

@@ -47,7 +47,7 @@ text_of-located offset (c ∷ cs) = ap (λ l. encode_utf8 c ++ l) (text_of-locat
 pub text_of-piece : (offset : ℕ) (text : List ℕ) → IsUtf8 text → text_of (located_from offset (chars text)) ≡ text
 text_of-piece offset text utf8 = text_of-located offset (chars text) ∙ encodes-chars text utf8
 
--- what stands before the same is the same
+-- what comes before the same is the same
 pub same_front : (one two rest all : List Located) → one ++ rest ≡ all → two ++ rest ≡ all → one ≡ two
 same_front one two rest all is other = append_cancel_right one two rest (is ∙ sym other)
 

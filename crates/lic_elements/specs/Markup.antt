@@ -11,8 +11,8 @@ use Rattle.lic_elements.specs.Texts.{text_of, offset_of, unescaped, begins_with,
 use Rattle.lic_elements.specs.Rules as rules
 use Rattle.lic_elements.specs.Rules.{Rule}
 
--- The characters cs are those in front and then rest, and that is the first offset at which `stands` holds, which is given
--- what is before an offset and what is from there on.
+-- The characters cs are those in front and then rest, and that is the first offset at which `holds` is true, which is
+-- given what is before an offset and what is from there on.
 pub record UpTo (holds : List Located → List Located → Bool) (cs front rest : List Located) : Type 0 where
   pub parts : cs ≡ front ++ rest
   pub here : holds front rest ≡ true

@@ -11,7 +11,7 @@ use Rattle.lic_elements.specs.Texts.{text_of, offset_of, begins_with, begins_wit
 use Rattle.lic_elements.specs.Faults.{fault_at}
 use Rattle.lic_elements.specs.Markup.{UpTo, IsTag, IsField, ends_field, ends_name, ends_quote, ends_value}
 
--- At none of these characters `stands` holds, which is given what is before an offset and what is from there on.
+-- At none of these characters `holds` is true, which is given what is before an offset and what is from there on.
 pub record Nowhere (holds : List Located → List Located → Bool) (cs : List Located) : Type 0 where
   pub never : (before : List Located) (x : Located) (after : List Located) → cs ≡ before ++ x ∷ after
       → holds before (x ∷ after) ≡ false
@@ -58,10 +58,10 @@ pub data IsOpenValue : List Located → Type 0 where
 pub data IsFieldFault (offset : ℕ) (tag : Tag) (names : List (List ℕ)) (cs : List Located) : MarkupFault → Type 0 where
   -- the text ends before `=`, `;` and `>>`: the rule is not closed
   open_name : Nowhere ends_name cs → IsFieldFault offset tag names cs (fault_at offset NotClosed)
-  -- `;` or `>>` comes before any `=`: told at the field's first byte
+  -- `;` or `>>` comes before any `=`: the fault is at the field's first byte
   no_equals : {name rest : List Located} → UpTo ends_name cs name rest → begins_with equals rest ≡ false
       → IsFieldFault offset tag names cs (fault_at (offset_of cs) NoEquals)
-  -- met at the `=` of the second one, whatever its value is: told at the first byte of its name
+  -- met at the `=` of the second one, whatever its value is: the fault is at the first byte of its name
   twice : {name following : List Located} {sign : Located} → UpTo ends_name cs name (sign ∷ following) → sign.1 ≡ equals
       → is_second tag (text_of (trim_end name)) names ≡ true
       → IsFieldFault offset tag names cs (fault_at (offset_of cs) FieldTwice)

@@ -92,7 +92,7 @@ open-end ls offset level o m outer same h =
     (open-on h.0 more o m outer same whole h.4)
 
 record SoFar (ls : List (ℕ × Lexeme)) (s : State) : Type 0 where
-  stand : AllMayFollow ls
+  follow : AllMayFollow ls
   last : EndIn s.level.last ls
   groups : Open ls s.level s.outer
 
@@ -109,17 +109,17 @@ data Fault (before ls : List (ℕ × Lexeme)) (fault : Option EreFault) (e : Ere
 -- one more lexeme before
 fault_back : (before ls : List (ℕ × Lexeme)) (x : ℕ × Lexeme) (fault : Option EreFault) (e : EreFault)
     → Fault (before ++ x ∷ []) ls fault e → Fault before (x ∷ ls) fault e
-fault_back before ls x fault e (early prefix after is stand not same) = early prefix after (sym (append_assoc before (x ∷ []) ls) ∙ is) stand not same
-fault_back before ls x fault e (left_open prefix after none is stand whole same) =
+fault_back before ls x fault e (early prefix after is follow not same) = early prefix after (sym (append_assoc before (x ∷ []) ls) ∙ is) follow not same
+fault_back before ls x fault e (left_open prefix after none is follow whole same) =
     left_open prefix after none (ap without_anchors (sym (append_assoc before (x ∷ []) ls)) ∙ is)
-    (subst (λ l. AllMayFollow (without_anchors l)) (append_assoc before (x ∷ []) ls) stand) whole same
-fault_back before ls x fault e (late some stand) = late some (subst (λ l. AllMayFollow (without_anchors l)) (append_assoc before (x ∷ []) ls) stand)
+    (subst (λ l. AllMayFollow (without_anchors l)) (append_assoc before (x ∷ []) ls) follow) whole same
+fault_back before ls x fault e (late some follow) = late some (subst (λ l. AllMayFollow (without_anchors l)) (append_assoc before (x ∷ []) ls) follow)
 
 -- a lexeme that is refused
 refused : (before ls : List (ℕ × Lexeme)) (offset : ℕ) (l : Lexeme) (cause : EreCause) (fault : Option EreFault)
     (e : EreFault) → AllMayFollow (without_anchors before) → MayNotFollow (without_anchors before) l cause
     → ◌≡◌ {A = Result Tree EreFault} (Err (fault_at offset cause)) (Err e) → Fault before ((offset, l) ∷ ls) fault e
-refused before ls offset l cause fault e stand not is = early before ls refl stand not (same_fault (fault_at offset cause) e is)
+refused before ls offset l cause fault e follow not is = early before ls refl follow not (same_fault (fault_at offset cause) e is)
 
 module _ (fault : Option EreFault) (e : EreFault) where
   abbrev Faulty : List (ℕ × Lexeme) → Type 0
@@ -134,10 +134,10 @@ module _ (fault : Option EreFault) (e : EreFault) where
 
   end_by : (before : List (ℕ × Lexeme)) (s : State) (os : List Level) → AllMayFollow (without_anchors before)
       → Open (without_anchors before) s.level os → fault ≡ None → finish s.level os ≡ Err e → Fault before [] fault e
-  end_by before s [] stand groups none is = not_failed (level_tree s.level) e is
-  end_by before s (o ∷ os) stand groups none is =
+  end_by before s [] follow groups none is = not_failed (level_tree s.level) e is
+  end_by before s (o ∷ os) follow groups none is =
       left_open groups.0 groups.1 none (ap without_anchors (append-nil before) ∙ groups.2)
-      (subst (λ l. AllMayFollow (without_anchors l)) (sym (append-nil before)) stand) groups.3
+      (subst (λ l. AllMayFollow (without_anchors l)) (sym (append-nil before)) follow) groups.3
       (same_fault (fault_at s.level.offset GroupNotClosed) e is)
 
   unit_by : (before ls : List (ℕ × Lexeme)) (offset : ℕ) (t : Tree) (s : State) → Faulty ls → SoFar (without_anchors before) s
@@ -146,7 +146,7 @@ module _ (fault : Option EreFault) (e : EreFault) where
       taken before ls (offset, unit t) (record s { level = with_unit t s.level }) others
       (without_anchors-append before ((offset, unit t) ∷ []))
       (record {
-        stand = faults.one_more offset so_far.stand faults.a_unit;
+        follow = faults.one_more offset so_far.follow faults.a_unit;
         last = faults.plain (without_anchors before) offset t;
         groups = open-on (without_anchors before) ((offset, unit t) ∷ []) s.level (with_unit t s.level) s.outer refl (faults.a_unit faults.no_lexeme) so_far.groups;
       }) is
@@ -158,18 +158,18 @@ module _ (fault : Option EreFault) (e : EreFault) where
       ((offset, sign b) ∷ ls) fault ≡ Err e → Fault before ((offset, sign b) ∷ ls) fault e
   unfolding read_on meet
   sign_by before ls offset b from alternatives units reading.no_unit outer others so_far is =
-      refused before ls offset (sign b) NothingToRepeat fault e so_far.stand (faults.nothing_to_repeat so_far.last) is
+      refused before ls offset (sign b) NothingToRepeat fault e so_far.follow (faults.nothing_to_repeat so_far.last) is
   sign_by before ls offset b from alternatives units (reading.repeated t) outer others so_far is =
-      refused before ls offset (sign b) TwoSigns fault e so_far.stand (faults.two_signs so_far.last) is
+      refused before ls offset (sign b) TwoSigns fault e so_far.follow (faults.two_signs so_far.last) is
   sign_by before ls offset None from alternatives units (reading.single t) outer others so_far is =
-      refused before ls offset (sign None) BadBound fault e so_far.stand (faults.bad_bound so_far.last) is
+      refused before ls offset (sign None) BadBound fault e so_far.follow (faults.bad_bound so_far.last) is
   sign_by before ls offset (Some b) from alternatives units (reading.single t) outer others so_far is =
       let old : Level = record { offset = from; alternatives = alternatives; before = units; last = reading.single t } in
       let now : Level = record { offset = from; alternatives = alternatives; before = units; last = reading.repeated (repeat t b.min b.max) } in
       taken before ls (offset, sign (Some b)) (record { level = now; outer = outer }) others
       (without_anchors-append before ((offset, sign (Some b)) ∷ []))
       (record {
-        stand = faults.one_more offset so_far.stand (faults.a_sign so_far.last);
+        follow = faults.one_more offset so_far.follow (faults.a_sign so_far.last);
         last = faults.repeated (without_anchors before) offset b;
         groups = open-on (without_anchors before) ((offset, sign (Some b)) ∷ []) old now outer refl (faults.a_sign faults.no_lexeme) so_far.groups;
       }) is
@@ -180,14 +180,14 @@ module _ (fault : Option EreFault) (e : EreFault) where
       >>= λ u. read_on u ls fault) ≡ Err e → Fault before ((offset, opening) ∷ ls) fault e
   opening_by before ls offset s false others so_far lt is =
       let deep : max_depth ≤ length s.outer = grind (arith, nat_tests) in
-      refused before ls offset opening TooDeep fault e so_far.stand
+      refused before ls offset opening TooDeep fault e so_far.follow
       (faults.too_deep (open-depth (without_anchors before) s.level s.outer so_far.groups) deep) is
   opening_by before ls offset s true others so_far lt is =
       let small : length s.outer < max_depth = grind (arith, nat_tests) in
       taken before ls (offset, opening) (record { level = new_level offset; outer = s.level ∷ s.outer }) others
       (without_anchors-append before ((offset, opening) ∷ []))
       (record {
-        stand = faults.one_more offset so_far.stand (faults.a_group (open-depth (without_anchors before) s.level s.outer so_far.groups) small);
+        follow = faults.one_more offset so_far.follow (faults.a_group (open-depth (without_anchors before) s.level s.outer so_far.groups) small);
         last = faults.opened (without_anchors before) offset;
         groups = (without_anchors before, [], refl, faults.no_lexeme, so_far.groups);
       }) is
@@ -201,7 +201,7 @@ module _ (fault : Option EreFault) (e : EreFault) where
       taken before ls (offset, closing) (record { level = with_unit (letters_tree close_paren) level; outer = [] }) others
       (without_anchors-append before ((offset, closing) ∷ []))
       (record {
-        stand = faults.one_more offset so_far.stand faults.an_end;
+        follow = faults.one_more offset so_far.follow faults.an_end;
         last = faults.closed (without_anchors before) offset;
         groups = faults.stray offset so_far.groups faults.no_lexeme;
       }) is
@@ -209,7 +209,7 @@ module _ (fault : Option EreFault) (e : EreFault) where
       taken before ls (offset, closing) (record { level = with_unit (level_tree level) o; outer = outer }) others
       (without_anchors-append before ((offset, closing) ∷ []))
       (record {
-        stand = faults.one_more offset so_far.stand faults.an_end;
+        follow = faults.one_more offset so_far.follow faults.an_end;
         last = faults.closed (without_anchors before) offset;
         groups = open-end (without_anchors before) offset level o (with_unit (level_tree level) o) outer refl so_far.groups;
       }) is
@@ -220,7 +220,7 @@ module _ (fault : Option EreFault) (e : EreFault) where
       taken before ls (offset, bar) (record s { level = with_alternative s.level }) others
       (without_anchors-append before ((offset, bar) ∷ []))
       (record {
-        stand = faults.one_more offset so_far.stand faults.a_bar;
+        follow = faults.one_more offset so_far.follow faults.a_bar;
         last = faults.divided (without_anchors before) offset;
         groups = open-on (without_anchors before) ((offset, bar) ∷ []) s.level (with_alternative s.level) s.outer refl (faults.a_bar faults.no_lexeme) so_far.groups;
       }) is
@@ -235,9 +235,9 @@ module _ (fault : Option EreFault) (e : EreFault) where
   ends_by : (before : List (ℕ × Lexeme)) (s : State) (f : Option EreFault) → fault ≡ f → SoFar (without_anchors before) s
       → read_on s [] f ≡ Err e → Fault before [] fault e
   unfolding read_on
-  ends_by before s None none so_far is = end_by before s s.outer so_far.stand so_far.groups none is
+  ends_by before s None none so_far is = end_by before s s.outer so_far.follow so_far.groups none is
   ends_by before s (Some d) some so_far is =
-      late (some ∙ ap (λ f. Some f) (same_fault d e is)) (subst (λ l. AllMayFollow (without_anchors l)) (sym (append-nil before)) so_far.stand)
+      late (some ∙ ap (λ f. Some f) (same_fault d e is)) (subst (λ l. AllMayFollow (without_anchors l)) (sym (append-nil before)) so_far.follow)
 
   faulty : (ls : List (ℕ × Lexeme)) → Faulty ls
   unfolding read_on meet
@@ -264,21 +264,21 @@ split (y ∷ prefix) offset l after (faults.one_lexeme is others) =
 
 fault_of : (pattern : List ℕ) (ls : List (ℕ × Lexeme)) (fault : Option EreFault) (e : EreFault) (others : List Located)
     → BeginWith (located pattern) ls others → Ends others fault → Fault [] ls fault e → IsFaultOf pattern e
-fault_of pattern ls fault e others are ends (early prefix after {offset = offset} {l = l} {cause = cause} is stand not same) =
+fault_of pattern ls fault e others are ends (early prefix after {offset = offset} {l = l} {cause = cause} is follow not same) =
     let found = split prefix offset l after (subst (λ ks. BeginWith (located pattern) ks others) is are) in
-    subst (IsFaultOf pattern) (ap (λ p. fault_at p cause) found.5 ∙ same) (faults.misplaced found.3 stand found.4 not)
-fault_of pattern ls fault e [] are ends (left_open prefix after none is stand whole same) =
-    subst (IsFaultOf pattern) same (faults.group_open prefix are stand is whole)
-fault_of pattern ls fault e (x ∷ more) are ends (left_open prefix after none is stand whole same) = absurd (some_none (sym ends.1 ∙ none))
+    subst (IsFaultOf pattern) (ap (λ p. fault_at p cause) found.5 ∙ same) (faults.misplaced found.3 follow found.4 not)
+fault_of pattern ls fault e [] are ends (left_open prefix after none is follow whole same) =
+    subst (IsFaultOf pattern) same (faults.group_open prefix are follow is whole)
+fault_of pattern ls fault e (x ∷ more) are ends (left_open prefix after none is follow whole same) = absurd (some_none (sym ends.1 ∙ none))
   where
     some_none : ◌≡◌ {A = Option EreFault} (Some ends.0) None → ⊥
     some_none h = cc
-fault_of pattern ls fault e [] are ends (late some stand) = absurd (some_none (sym some ∙ ends))
+fault_of pattern ls fault e [] are ends (late some follow) = absurd (some_none (sym some ∙ ends))
   where
     some_none : ◌≡◌ {A = Option EreFault} (Some e) None → ⊥
     some_none h = cc
-fault_of pattern ls fault e (x ∷ more) are ends (late some stand) =
-    faults.no_lexeme are stand (subst (IsNoLexeme x more) (same (sym ends.1 ∙ some)) ends.2)
+fault_of pattern ls fault e (x ∷ more) are ends (late some follow) =
+    faults.no_lexeme are follow (subst (IsNoLexeme x more) (same (sym ends.1 ∙ some)) ends.2)
   where
     same : ◌≡◌ {A = Option EreFault} (Some ends.0) (Some e) → ends.0 ≡ e
     same h = ap (λ o. elim o [ Some f ↦ f | None ↦ e ]) h
@@ -290,4 +290,4 @@ reading-IsFaultOf pattern e is =
     let found = spelled 0 (located pattern) in
     fault_of pattern ls.found ls.fault e found.0 found.1 found.2
     (faulty ls.fault e ls.found [] start
-    (record { stand = faults.no_lexeme; last = faults.no_lexeme; groups = faults.none faults.no_lexeme }) is)
+    (record { follow = faults.no_lexeme; last = faults.no_lexeme; groups = faults.none faults.no_lexeme }) is)

@@ -192,8 +192,8 @@ module _ (before : List (ℕ × Lexeme)) (offset : ℕ) where
 
 reach : {ls : List (ℕ × Lexeme)} → AllMayFollow ls → (s : State) × Reached ls s
 reach faults.no_lexeme = (start, record { last = refl; groups = refl; runs = λ more fault. refl })
-reach (faults.one_more {before = before} offset stand may) =
-    let r = reach stand in
+reach (faults.one_more {before = before} offset follow may) =
+    let r = reach follow in
     after_one before offset r.0 r.1 may
 
 after_meet : (r : Result State EreFault) (ls ms : List (ℕ × Lexeme)) (fault : Option EreFault)
@@ -273,17 +273,17 @@ finish_open level (o ∷ outer) offset ps e = ap (λ (qs : List ℕ). elim qs [ 
 -- the fault that decides is the one that reading meets
 pub IsFaultOf-reading : (pattern : List ℕ) (e : EreFault) → IsFaultOf pattern e → reading pattern ≡ Err e
 unfolding read_on lexemes
-IsFaultOf-reading pattern e (faults.no_lexeme {ls = ls} are stand none) =
-    let r = reach stand in
+IsFaultOf-reading pattern e (faults.no_lexeme {ls = ls} are follow none) =
+    let r = reach follow in
     ap (λ (ks : Lexemes). read_on start ks.found ks.fault) (begin_read are ∙ ap (before_these ls) (none_read none))
     ∙ runs_to ls r.0 r.1 [] (Some e)
-IsFaultOf-reading pattern e (faults.misplaced {ls = ls} {x = x} {more = more} {l = l} are stand is not) =
-    let r = reach stand in
+IsFaultOf-reading pattern e (faults.misplaced {ls = ls} {x = x} {more = more} {l = l} are follow is not) =
+    let r = reach follow in
     ap (λ (ks : Lexemes). read_on start ks.found ks.fault) (begin_read are ∙ ap (before_these ls) (one_read is))
     ∙ runs_to ls r.0 r.1 ((x.0, l) ∷ (lexemes 0 more).found) (lexemes 0 more).fault
     ∙ is_refused x.0 (lexemes 0 more).found (lexemes 0 more).fault (without_anchors ls) r.0 r.1 not
-IsFaultOf-reading pattern e (faults.group_open {ls = ls} {after = after} {offset = offset} before are stand is whole) =
-    let r = reach stand in
+IsFaultOf-reading pattern e (faults.group_open {ls = ls} {after = after} {offset = offset} before are follow is whole) =
+    let r = reach follow in
     let groups : offsets r.0.level r.0.outer ≡ offset ∷ open_offsets [] before =
     sym r.1.groups ∙ ap (open_offsets []) is ∙ inner-offsets before after offset whole in
     ap (λ (ks : Lexemes). read_on start ks.found ks.fault) (begin_read are)

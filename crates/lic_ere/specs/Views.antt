@@ -9,7 +9,7 @@ use Rattle.lic_ere.specs.Lexemes as lexemes
 use Rattle.lic_ere.specs.declared.level.LastUnit.{LastUnit}
 use Rattle.lic_ere.specs.declared.level.LastUnit.TheVariants as levels
 use Rattle.lic_ere.specs.declared.level.Level.{Level}
-use Rattle.lic_ere.specs.declared.reader.Reader.{Reader}
+use Rattle.lic_ere.specs.declared.reader.PatternReader.{PatternReader}
 use Rattle.lic_ere.specs.Reading as reading
 
 -- the characters that are left
@@ -46,5 +46,5 @@ level_of l =
 abbrev pub levels_of : List Level → List reading.Level
 levels_of ls = reverse (map level_of ls)
 
-abbrev pub state_of : Reader → reading.State
+abbrev pub state_of : PatternReader → reading.State
 state_of r = record { level = level_of r.level; outer = levels_of r.outer.items }

@@ -35,7 +35,7 @@ const _: () = prove!(size_of::<Ere>() == 32);
 /// use if it were given back alone.
 const SHORT: usize = 64;
 
-/// The same trees with no room to spare.
+/// The same trees in a list that holds no more.
 fn fitted(alloc: Global, trees: Vec<Ere>) -> Result<Vec<Ere>, AllocError>
     ensures { IfOk result (λ fitted. fitted.items ≡ trees.items) }
 {

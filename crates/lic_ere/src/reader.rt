@@ -14,23 +14,23 @@ const MAX_DEPTH: usize = 64;
 
 /// The innermost level, and those round it.
 #[derive(Drop)]
-pub struct Reader {
+pub struct PatternReader {
     pub level: Level,
     /// The innermost one is last.
     pub outer: Vec<Level>,
 }
 
-impl Reader {
+impl PatternReader {
     ghost use Rattle.lic_ere.specs.Trees.{tree_of};
     ghost use Rattle.lic_ere.specs.Faults.{Gives};
     ghost use Rattle.lic_ere.specs.Reading.{start, open_group, close_group, meet, finish};
     ghost use Rattle.lic_ere.specs.Views.{lexeme_of, state_of};
 
     /// Before the first lexeme.
-    pub fn new(alloc: Global) -> Reader
+    pub fn new(alloc: Global) -> PatternReader
         ensures { state_of result ≡ start }
     {
-        Reader {
+        PatternReader {
             level: Level::new(alloc, 0),
             outer: Vec::new(alloc),
         }

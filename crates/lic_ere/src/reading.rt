@@ -11,7 +11,7 @@ ghost use Rattle.lic_ere.specs.Views.{left};
 use crate::ere::Ere;
 use crate::fault::EreFault;
 use crate::lexeme::next_lexeme;
-use crate::reader::Reader;
+use crate::reader::PatternReader;
 use crate::remaining::Remaining;
 use std::alloc::Global;
 
@@ -19,7 +19,7 @@ use std::alloc::Global;
 fn read_all(alloc: Global, all: Remaining<'_>) -> Result<Ere, EreFault>
     ensures { Gives tree_of result (read_from start (left all.entry)) }
 {
-    let mut reader = Reader::new(alloc);
+    let mut reader = PatternReader::new(alloc);
     let mut rest = all;
     while let Some((first, after)) = rest.split_first() {
         let (offset, character) = first;

@@ -59,12 +59,12 @@ module _ (set : List Known) (tokens : List TokenValue) (place : Option Triple) (
       (AreCounted-begin set tokens listed place noting most least (numbers_of new) from (steps_of new) noted whole within (omega arith)
       (subst (AreFirstsFrom set tokens (numbers_of new) from) is firsts_of_new).0)
 
-pub HasBegun-told : (starts left : List NotedFirst) (run new : Run) (r : Option ℕ) →
+pub HasBegun-given : (starts left : List NotedFirst) (run new : Run) (r : Option ℕ) →
     IfSome r (λ first. (noted : NotedFirst) × (starts ≡ noted ∷ left) × (noted.first ≡ first)
     × RunHasTakenAmong new (noted_with (numbers_of run) noted.numbers) []) →
     IfNone r ((starts ≡ []) × (left ≡ starts) × (new ≡ run)) → HasBegun starts left run new r
-HasBegun-told starts left run new None some none = none
-HasBegun-told starts left run new (Some first) some none = some
+HasBegun-given starts left run new None some none = none
+HasBegun-given starts left run new (Some first) some none = some
 
 pub IfNone-map : {A : Type 0} {P Q : Type 0} → (r : Option A) → (P → Q) → IfNone r P → IfNone r Q
 IfNone-map None f p = f p

@@ -23,8 +23,8 @@ module _ (p : ℕ → Bool) where
 
   filter_range-next : (a n j m : ℕ) → ((i : ℕ) → a ≤ i → i < j → p i ≡ false) → a ≤ j → j + suc m ≡ a + n → p j ≡ true →
       filter p (range_with_len a n) ≡ j ∷ filter p (range_with_len (j + 1) m)
-  filter_range-next a zero j m none low room passes = absurd (omega arith)
-  filter_range-next a (suc n) j m none low room passes =
+  filter_range-next a zero j m none low fits passes = absurd (omega arith)
+  filter_range-next a (suc n) j m none low fits passes =
       ⊎_elim
       (λ (before : a < j).
       cond-false (p a) _ _ (none a (omega arith) before)

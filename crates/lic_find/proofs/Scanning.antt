@@ -95,14 +95,14 @@ module _ (set : List Known) (tokens : List TokenValue) where
         → set_of new ≡ set_of run → numbers_of new ≡ numbers_of run →
         RunHasTakenAmong new come.numbers (letters_up_to tokens first end ++ chars (get_or tokens end d).text ∷ [])
         → HasCome set tokens place new noted first (end + 1)
-    HasCome-push new d none room same alike taken =
+    HasCome-push new d none fits same alike taken =
         let order : first ≤ end = come.order in
         record {
           order = omega arith;
           within = omega arith;
           templates = same ∙ come.templates;
           numbers = come.numbers;
-          taken = subst (RunHasTakenAmong new come.numbers) (sym (letters_up_to-more tokens first end d order room)) taken;
+          taken = subst (RunHasTakenAmong new come.numbers) (sym (letters_up_to-more tokens first end d order fits)) taken;
           all = λ t n. come.all t (match_of_run new alike t n);
           reached = λ t n after.
               let m = match_of_run new alike t n in

@@ -124,11 +124,11 @@ module _ (set : List Known) (tokens : List TokenValue) (kept : List ℕ) (began 
   pub AreCounted-push : (d : TokenValue) (more : ℕ) → first ≤ end → end < length tokens → walked ≤ more
       → more ≤ walked + 2 * letters_in (chars (get_or tokens end d).text) →
       (more < 2 ^ 64 - 1 → walked + letters_in (chars (get_or tokens end d).text) ≤ more) → AreCounted set tokens kept began noting more first (end + 1)
-  AreCounted-push d more order room grows most least =
+  AreCounted-push d more order fits grows most least =
       let left : letters_of (drop end tokens)
       ≡ letters_in (chars (get_or tokens end d).text) + letters_of (drop (end + 1) tokens) =
-      letters_of-drop tokens end d room in
-      let longer = letters_of-more tokens first end d order room in
+      letters_of-drop tokens end d fits in
+      let longer = letters_of-more tokens first end d order fits in
       let before = counted.walked_most in
       record {
         noting_most = counted.noting_most;

@@ -43,12 +43,12 @@ sound_more lines n sound here k within =
     ⊎_elim (λ before. sound k before) (λ last. let same : k ≡ n = omega (arith, within, last) in ap (cause_at lines) same ∙ here) (cases_lt k n)
 
 -- what is reported for the first line at fault
-pub told : (lines : List Line) (n : ℕ) (cause : RulesCause) → n < length lines → AreSound lines n → (cause_at lines n ≡ Some cause) ⊎ (cause ≡ OutOfMemory)
+pub first_reported : (lines : List Line) (n : ℕ) (cause : RulesCause) → n < length lines → AreSound lines n → (cause_at lines n ≡ Some cause) ⊎ (cause ≡ OutOfMemory)
     → IsFirstFault lines (fault_at (n + 1) cause) ⊎ (fault_at (n + 1) cause ≡ out_of_memory)
-told lines n UnknownRule within sound (inl fault) = inl (record { before = n; line = refl; within = within; cause = fault; first = sound })
-told lines n UnknownRule within sound (inr memory) = absurd (let h : UnknownRule ≡ OutOfMemory = memory in cc)
-told lines n BadText within sound (inl fault) = inl (record { before = n; line = refl; within = within; cause = fault; first = sound })
-told lines n BadText within sound (inr memory) = absurd (let h : BadText ≡ OutOfMemory = memory in cc)
-told lines n TooManyTexts within sound (inl fault) = inl (record { before = n; line = refl; within = within; cause = fault; first = sound })
-told lines n TooManyTexts within sound (inr memory) = absurd (let h : TooManyTexts ≡ OutOfMemory = memory in cc)
-told lines n OutOfMemory within sound fault = inr refl
+first_reported lines n UnknownRule within sound (inl fault) = inl (record { before = n; line = refl; within = within; cause = fault; first = sound })
+first_reported lines n UnknownRule within sound (inr memory) = absurd (let h : UnknownRule ≡ OutOfMemory = memory in cc)
+first_reported lines n BadText within sound (inl fault) = inl (record { before = n; line = refl; within = within; cause = fault; first = sound })
+first_reported lines n BadText within sound (inr memory) = absurd (let h : BadText ≡ OutOfMemory = memory in cc)
+first_reported lines n TooManyTexts within sound (inl fault) = inl (record { before = n; line = refl; within = within; cause = fault; first = sound })
+first_reported lines n TooManyTexts within sound (inr memory) = absurd (let h : TooManyTexts ≡ OutOfMemory = memory in cc)
+first_reported lines n OutOfMemory within sound fault = inr refl

@@ -8,7 +8,7 @@ use Rattle.lic_kind.specs.Kinds.{Entry, one, range, is_entry, is_listed, dropped
 
 -- ---- a test that fails on a whole table
 
--- p fails at so many characters from the first on
+-- p fails at n characters from the first on
 abbrev pub fails_from : (ℕ → Bool) → ℕ → ℕ → Bool
 fails_from p first zero = true
 fails_from p first (suc n) = not (p first) && fails_from p (suc first) n
@@ -207,7 +207,7 @@ is_mark_kind-true Dropped e = cc
 is_mark_kind-true Mark e = refl
 is_mark_kind-true Word e = cc
 
--- a test that passes at each of so many characters from the first on
+-- a test that passes at each of n characters from the first on
 pub each_below : (n : ℕ) (p : ℕ → Bool) (c : ℕ) → fails_from (λ d. not (p d)) 0 n ≡ true → c < n → p c ≡ true
 each_below n p c each below = passes (p c) (fails_from-within (λ d. not (p d)) 0 n c each (omega arith) (omega arith))
   where

@@ -95,13 +95,13 @@ abbrev pub texts_before : List Line → ℕ
 texts_before [] = 0
 texts_before (line ∷ lines) = text_count line + texts_before lines
 
--- what is wrong with a text of which so many come before it
+-- what is wrong with a text after `before` others
 abbrev pub cause_of_text : ℕ → Option (List ℕ) → Option RulesCause
 cause_of_text before None = if nat_le 256 before then Some TooManyTexts else Some BadText
 cause_of_text before (Some cs) =
     if nat_le 256 before then Some TooManyTexts else (if is_text cs then None else Some BadText)
 
--- what is wrong with a line, where so many texts come before it
+-- what is wrong with a line after `before` texts
 abbrev pub cause_of : ℕ → Line → Option RulesCause
 cause_of before comment = None
 cause_of before (text kind following) = cause_of_text before following
@@ -113,7 +113,7 @@ cause_of before unknown = Some UnknownRule
 abbrev pub cause_at : List Line → ℕ → Option RulesCause
 cause_at lines n = cause_of (texts_before (take n lines)) (slice_index_or lines n comment)
 
--- nothing is wrong with the first lines, so many of them
+-- nothing is wrong with the first n lines
 abbrev pub AreSound : List Line → ℕ → Type 0
 AreSound lines n = (k : ℕ) → k < n → cause_at lines k ≡ None
 

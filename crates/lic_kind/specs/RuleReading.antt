@@ -3,14 +3,14 @@ use Rattle.std.specs.Prelude.{ℕ, List, [], ◌∷◌, ◌++◌, map}
 use Rattle.lic_kind.specs.LineRules.{LineRules, RuleKind, Lead, LeadSpace, Tail, TailSpace, TailRepeat}
 use Rattle.lic_kind.specs.RuleFiles.{Line, text_in, items_in, separators_in, last_or}
 use Rattle.lic_kind.specs.declared.rule_text.RuleText.{RuleText}
-use Rattle.lic_kind.specs.declared.rules.reader.Reader.{Reader}
+use Rattle.lic_kind.specs.declared.rules.reader.RulesReader.{RulesReader}
 
 -- the characters of these texts
 abbrev pub texts_in : List RuleText → List (List ℕ)
 texts_in texts = map (λ text. text.characters.items) texts
 
 -- the rules of the lines that are read
-abbrev pub rules_read : Reader → LineRules
+abbrev pub rules_read : RulesReader → LineRules
 rules_read r = record {
   lead = texts_in r.lead.items;
   lead_space = texts_in r.lead_space.items;

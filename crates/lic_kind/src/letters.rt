@@ -16,7 +16,7 @@ use std::iter::once;
 /// word character its full case folding (The Unicode Standard, toCasefold). A word character whose
 /// folding holds a character of another kind would stay as it is; Unicode has none.
 ///
-/// The answer is never an error: it has room for four letters and no folding has more than three,
+/// The answer is never an error: it can hold four letters and no folding has more than three,
 /// so no memory is asked for.
 #[tactic(auto, using(crate::proofs::WordFoldings::letter_rules))]
 pub fn spell(alloc: Global, c: char) -> Result<SmallVec<char, 4, Global>, AllocError>

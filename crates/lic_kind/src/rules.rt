@@ -9,7 +9,7 @@ mod rule_line;
 
 use crate::rule_kind::RuleKind;
 use crate::rules::beginnings::Beginnings;
-use crate::rules::reader::Reader;
+use crate::rules::reader::RulesReader;
 use crate::rules_fault::RulesFault;
 use crate::texts::{FixedText, Texts};
 use std::alloc::Global;
@@ -147,7 +147,7 @@ impl Rules {
         ensures refused { IfErr result (λ fault. IsFirstFault (lines_of text.now) fault
             ⊎ (fault ≡ out_of_memory)) }
     {
-        let mut reader = Reader::new(alloc);
+        let mut reader = RulesReader::new(alloc);
         let mut number: usize = 0;
         for line in text.split('\n') {
             number += 1;

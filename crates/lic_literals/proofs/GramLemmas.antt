@@ -8,7 +8,7 @@ use Rattle.memchr.proofs.lemmas.MatchLemmas.{OccursAt-part}
 -- a part of the first n bytes from an offset on
 part_within : (bytes : List ℕ) (from n d size : ℕ) → d + size ≤ n →
     slice_range (take n (drop from bytes)) d (d + size) ≡ slice_range bytes (from + d) (from + d + size)
-part_within bytes from n d size room =
+part_within bytes from n d size fits =
     let split : n ≡ d + (n - d) = omega arith in
     let here : d + size - d ≡ size = omega arith in
     let there : size ≡ from + d + size - (from + d) = omega arith in
@@ -22,5 +22,5 @@ part_within bytes from n d size room =
 -- a part of what is at an offset occurs as much later
 pub part_of_occurrence : (bytes window : List ℕ) (p d size : ℕ) → OccursAt bytes window p → d + size ≤ length window →
     slice_range window d (d + size) ≡ slice_range bytes (p + d) (p + d + size)
-part_of_occurrence bytes window p d size occurs room =
-    ap (λ w. slice_range w d (d + size)) (sym (OccursAt-part bytes window p occurs)) ∙ part_within bytes p (length window) d size room
+part_of_occurrence bytes window p d size occurs fits =
+    ap (λ w. slice_range w d (d + size)) (sym (OccursAt-part bytes window p occurs)) ∙ part_within bytes p (length window) d size fits

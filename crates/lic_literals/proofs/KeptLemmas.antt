@@ -63,12 +63,12 @@ module _ (by limit : ℕ) where
 
   -- an offset is shifted, if it stays within the limit
   pub Contains-shifted : (xs : List ℕ) (p e : ℕ) → Contains xs p → p + by ≡ e → e ≤ limit → Contains (shifted by limit xs) e
-  Contains-shifted xs p e inside at room =
+  Contains-shifted xs p e inside at room_is =
       let (i, within, is) = inside in
       let size : length (map (λ q. q + by) xs) ≡ length xs = length-map xs (λ q. q + by) in
       let there : get_or (map (λ q. q + by) xs) i e ≡ e =
       get_or-map (λ q. q + by) xs i p e within ∙ ap (λ q. q + by) is ∙ at in
-      Contains-filter (λ q. nat_le q limit) (map (λ q. q + by) xs) e (i, omega arith, there) (le-leb e limit room)
+      Contains-filter (λ q. nat_le q limit) (map (λ q. q + by) xs) e (i, omega arith, there) (le-leb e limit room_is)
 
 module _ (P : List ℕ → Type 0) (number : ℕ) where
   -- nothing is asked of ends that are not known

@@ -66,11 +66,11 @@ module _ (bytes literal : List ℕ) where
 -- a part of a literal occurs where the literal does
 pub occurs_part : (bytes literal : List ℕ) (q a b : ℕ) → OccursAt bytes literal q → a ≤ b → b ≤ length literal →
     OccursAt bytes (slice_range literal a b) (q + a)
-occurs_part bytes literal q a b occurs order room =
-    let size : length (slice_range literal a b) ≡ b - a = part_length literal literal a b room order in
+occurs_part bytes literal q a b occurs order bounded =
+    let size : length (slice_range literal a b) ≡ b - a = part_length literal literal a b bounded order in
     record {
       fits = omega (arith, occurs.fits, size);
       reads = λ j h.
           let same : q + a + j ≡ q + (a + j) = omega arith in
-          ap (λ n. get_or bytes n 0) same ∙ occurs.reads (a + j) (omega (arith, size)) ∙ sym (part_reads literal literal a b room order j (omega (arith, size)));
+          ap (λ n. get_or bytes n 0) same ∙ occurs.reads (a + j) (omega (arith, size)) ∙ sym (part_reads literal literal a b bounded order j (omega (arith, size)));
     }

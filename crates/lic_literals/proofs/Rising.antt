@@ -36,46 +36,46 @@ le_later xs rising i j order within =
     (cases_lt i j)
 
 -- a number between those that are less and those that are greater
-module _ (xs : List ℕ) (at x : ℕ) (room : at ≤ length xs) where
+module _ (xs : List ℕ) (at x : ℕ) (fits : at ≤ length xs) where
   pub Contains-insert : Contains (insert xs at x) x
-  Contains-insert = (at, omega (arith, length-insert xs at x room), get_or-insert_at xs at x x room)
+  Contains-insert = (at, omega (arith, length-insert xs at x fits), get_or-insert_at xs at x x fits)
 
   pub Contains-insert_kept : (y : ℕ) → Contains xs y → Contains (insert xs at x) y
   Contains-insert_kept y (i, within, is) =
       ⊎_elim
-      (λ (below : i < at). (i, omega (arith, length-insert xs at x room), get_or-insert_below xs at x y i below room ∙ is))
-      (λ (above : at ≤ i). (i + 1, omega (arith, length-insert xs at x room), get_or-insert_above xs at x y i above room ∙ is))
+      (λ (below : i < at). (i, omega (arith, length-insert xs at x fits), get_or-insert_below xs at x y i below fits ∙ is))
+      (λ (above : at ≤ i). (i + 1, omega (arith, length-insert xs at x fits), get_or-insert_above xs at x y i above fits ∙ is))
       (cases_lt i at)
 
   pub IsStrictlyIncreasing-insert : IsStrictlyIncreasing xs → ((k : ℕ) → k < at → get_or xs k 0 < x) →
       ((k : ℕ) → at ≤ k → k < length xs → x < get_or xs k 0) → IsStrictlyIncreasing (insert xs at x)
   IsStrictlyIncreasing-insert rising less greater = λ k h.
-      let size : length (insert xs at x) ≡ length xs + 1 = length-insert xs at x room in
+      let size : length (insert xs at x) ≡ length xs + 1 = length-insert xs at x fits in
       ⊎_elim
       (λ (early : k + 1 < at).
-      let here : get_or (insert xs at x) k 0 ≡ get_or xs k 0 = get_or-insert_below xs at x 0 k (omega arith) room in
-      let next : get_or (insert xs at x) (k + 1) 0 ≡ get_or xs (k + 1) 0 = get_or-insert_below xs at x 0 (k + 1) early room in
+      let here : get_or (insert xs at x) k 0 ≡ get_or xs k 0 = get_or-insert_below xs at x 0 k (omega arith) fits in
+      let next : get_or (insert xs at x) (k + 1) 0 ≡ get_or xs (k + 1) 0 = get_or-insert_below xs at x 0 (k + 1) early fits in
       omega (arith, here, next, rising k (omega arith)))
       (λ (not_early : at ≤ k + 1).
       ⊎_elim
       (λ (before : k < at).
       let last : k + 1 ≡ at = omega arith in
-      let here : get_or (insert xs at x) k 0 ≡ get_or xs k 0 = get_or-insert_below xs at x 0 k before room in
-      let next : get_or (insert xs at x) (k + 1) 0 ≡ x = ap (λ i. get_or (insert xs at x) i 0) last ∙ get_or-insert_at xs at x 0 room in
+      let here : get_or (insert xs at x) k 0 ≡ get_or xs k 0 = get_or-insert_below xs at x 0 k before fits in
+      let next : get_or (insert xs at x) (k + 1) 0 ≡ x = ap (λ i. get_or (insert xs at x) i 0) last ∙ get_or-insert_at xs at x 0 fits in
       omega (arith, here, next, less k before))
       (λ (not_before : at ≤ k).
-      let next : get_or (insert xs at x) (k + 1) 0 ≡ get_or xs k 0 = get_or-insert_above xs at x 0 k not_before room in
+      let next : get_or (insert xs at x) (k + 1) 0 ≡ get_or xs k 0 = get_or-insert_above xs at x 0 k not_before fits in
       ⊎_elim
       (λ (after : at < k).
       let one : k - 1 + 1 ≡ k = omega arith in
       let here : get_or (insert xs at x) k 0 ≡ get_or xs (k - 1) 0 =
-      ap (λ i. get_or (insert xs at x) i 0) (sym one) ∙ get_or-insert_above xs at x 0 (k - 1) (omega arith) room in
+      ap (λ i. get_or (insert xs at x) i 0) (sym one) ∙ get_or-insert_above xs at x 0 (k - 1) (omega arith) fits in
       let step : get_or xs (k - 1) 0 < get_or xs (k - 1 + 1) 0 = rising (k - 1) (omega arith) in
       let same : get_or xs (k - 1 + 1) 0 ≡ get_or xs k 0 = ap (λ i. get_or xs i 0) one in
       omega (arith, here, next, step, same))
       (λ (not_after : k ≤ at).
       let now : k ≡ at = omega arith in
-      let here : get_or (insert xs at x) k 0 ≡ x = ap (λ i. get_or (insert xs at x) i 0) now ∙ get_or-insert_at xs at x 0 room in
+      let here : get_or (insert xs at x) k 0 ≡ x = ap (λ i. get_or (insert xs at x) i 0) now ∙ get_or-insert_at xs at x 0 fits in
       omega (arith, here, next, greater k not_before (omega arith)))
       (cases_lt at k))
       (cases_lt k at))

@@ -126,7 +126,7 @@ module _ (literal : List ℕ) (number : ℕ) (old : Tables) where
   }
 
 -- the window that begins at an offset is put down in a table
-module _ {LENGTH GRAM STEP : ℕ} (literal : List ℕ) (number start answer : ℕ) (old new : Table LENGTH GRAM STEP) (room : start + LENGTH ≤ length literal)
+module _ {LENGTH GRAM STEP : ℕ} (literal : List ℕ) (number start answer : ℕ) (old new : Table LENGTH GRAM STEP) (fits : start + LENGTH ≤ length literal)
     (adds : AddsWindow (slice_range literal start (start + LENGTH)) number answer old new) where
   pub adds_key : AddsKey literal number (record { window = answer; to_end = length literal - start }) old new
   adds_key = record {

@@ -5,7 +5,7 @@ use Rattle.lic_literals.specs.Hits.{offsets_of}
 use Rattle.lic_literals.specs.declared.kept.Ends.{Ends}
 use Rattle.lic_literals.specs.declared.kept.Kept.{Kept}
 
--- so many bytes after these offsets, as far as that is within the limit
+-- each of these offsets and `by` more, where that is within the limit
 abbrev pub shifted : ℕ → ℕ → List ℕ → List ℕ
 shifted by limit offsets = filter (λ e. nat_le e limit) (map (λ p. p + by) offsets)
 

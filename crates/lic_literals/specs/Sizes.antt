@@ -9,6 +9,6 @@ pub record AreSizes (length gram step : ℕ) : Type 0 where
   pub fits : step + gram ≤ length + 1
   pub short : length ≤ 64
 
--- the gram of so many bytes that begins at an offset
+-- the gram of `size` bytes that begins at an offset
 abbrev pub gram_at : ℕ → List ℕ → ℕ → List ℕ
 gram_at size bytes offset = slice_range bytes offset (offset + size)

@@ -9,7 +9,7 @@ use crate::marks::MARKS;
 // An odd number, the bits of which follow no pattern: a word times it spreads over the high bits of a hash.
 const SPREAD: u64 = 0x9E37_79B9_7F4A_7C15;
 
-/// How many bytes of a gram are hashed, if it has so many.
+/// How many bytes of a gram are hashed, if it has them.
 pub const LONG_GRAM: usize = 8;
 
 /// How many bytes of a shorter gram are hashed.
@@ -21,7 +21,7 @@ const MARK_BITS: u32 = 46;
 // How far up in a hash the bits are that number a mark together with an offset: the next 15.
 const NEXT_BITS: u32 = 31;
 
-// How many offsets in a window a mark tells apart.
+// How many offsets in a window a mark has bits for.
 const STARTS: usize = 8;
 
 /// The hash of a gram: its first eight bytes, or its first four where it has fewer, as a word, times a number.

@@ -31,9 +31,9 @@ module _ {rules : LineRules} {words : List Phrase} {old new : Option (List ℕ)}
       → AreGoneOver rules words old failed_old (map string_bytes ids) known mid failed_mid
       → IsReported mid new failed_mid failed_new (line_of_template (string_bytes id) why)
       → AreGoneOver rules words old failed_old (map string_bytes (ids ++ id ∷ [])) known new failed_new
-  left_out_more ids known id why gone told =
+  left_out_more ids known id why gone reported =
       subst (λ ns. AreGoneOver rules words old failed_old ns known new failed_new) (sym (map-append string_bytes ids (id ∷ [])))
-      (left_out (string_bytes id) why gone told)
+      (left_out (string_bytes id) why gone reported)
 
 -- all of the listing was gone over
 pub are_read : {rules : LineRules} {words : List Phrase} {old mid new : Option (List ℕ)} {failed_old failed_mid failed_new : ℕ} (listing : Listing)

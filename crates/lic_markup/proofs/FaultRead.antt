@@ -26,7 +26,7 @@ use Rattle.lic_elements.proofs.CutSpelled.{cut_elements}
 use Rattle.lic_markup.proofs.TemplateSpelled.{items_read, after_variable, after_begin, after_finish, then}
 use Rattle.lic_markup.proofs.FaultSpelled.{reading-IsFaultOf, with_letters-offset}
 
--- so many levels out is one that begins at this offset
+-- k levels out is one that begins at this offset
 abbrev Begins : ℕ → ℕ → List Level → Type 0
 Begins offset k [] = ⊥
 Begins offset zero (l ∷ ls) = l.offset ≡ offset
@@ -37,7 +37,7 @@ begins-same offset zero l m ls same h = same ∙ h
 begins-same offset (suc k) l m ls same h = h
 
 module _ (line_rules : LineRules) (words : List Phrase) where
-  -- where a state is got to, in so many open parts, with the same left to be read
+  -- a state that is reached, with `depth` parts open and the same left to be read
   abbrev Reaches : State → List Element → ℕ → List Element → Type 0
   Reaches s es depth rest =
       (t : State) × (length t.outer ≡ depth)
@@ -116,7 +116,7 @@ module _ (line_rules : LineRules) (words : List Phrase) where
   sound-split (rule (rules.finish offset) ∷ before) (faults.finish h) = let more = sound-split before h in (more.0, faults.finish more.1, more.2)
   sound-split (refused e ∷ before) h = elim h [ ]
 
-  -- elements after which the part that is so many levels out has become the one that is so many levels out
+  -- elements after which a part is at another level, the number of levels out
   abbrev Leads : ℕ → ℕ → State → List Element → ℕ → Type 0
   Leads offset j s es depth =
       (t : State) × (length t.outer ≡ depth) × Begins offset j (t.level ∷ t.outer)

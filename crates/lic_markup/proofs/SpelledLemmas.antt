@@ -17,14 +17,14 @@ use Rattle.lic_phrases.specs.TokenTexts.{IsTokenText}
 -- ---- letters of tokens
 
 -- each blank has a letter of kind Word after it
-abbrev GoesOn : List ℕ → Type 0
-GoesOn [] = Unit {0}
-GoesOn (c ∷ cs) = (c ≡ blank → first_is_word cs ≡ true) × GoesOn cs
+abbrev Continues : List ℕ → Type 0
+Continues [] = Unit {0}
+Continues (c ∷ cs) = (c ≡ blank → first_is_word cs ≡ true) × Continues cs
 
 -- there is a letter, and the first is no blank
 abbrev IsSequence : List ℕ → Type 0
 IsSequence [] = ⊥
-IsSequence (c ∷ cs) = ((c == blank) ≡ false) × GoesOn cs
+IsSequence (c ∷ cs) = ((c == blank) ≡ false) × Continues cs
 
 abbrev AreSequences : List (List ℕ) → Type 0
 AreSequences [] = Unit {0}
@@ -38,13 +38,13 @@ word_no_blank : (c : ℕ) → is_word c ≡ true → (c == blank) ≡ false
 word_no_blank c h = ne_eqb c blank (λ e. true≢false (sym h ∙ ap is_word e ∙ blank_no_word))
 
 -- the letters of a token after a letter, or after a blank that a word follows
-letters_spell : (last : ℕ) (apart : Bool) (t v sequence : List ℕ) → (apart ≡ true → first_is_word t ≡ true) → GoesOn t →
+letters_spell : (last : ℕ) (apart : Bool) (t v sequence : List ℕ) → (apart ≡ true → first_is_word t ≡ true) → Continues t →
     SpellsGapped v (gapped_from (last_letter last t) false sequence) → SpellsGapped (blank_if apart ++ (t ++ v)) (gapped_from last apart (t ++ sequence))
 letters_spell last false [] v sequence starts on s = s
 letters_spell last true [] v sequence starts on s = absurd (true≢false (sym (starts refl)))
 letters_spell last apart (c ∷ t) v sequence starts on s = by_letter (λ l a. letters_spell l a t v sequence) (c == blank) refl apart starts
   where
-    by_letter : ((l : ℕ) (a : Bool) → (a ≡ true → first_is_word t ≡ true) → GoesOn t
+    by_letter : ((l : ℕ) (a : Bool) → (a ≡ true → first_is_word t ≡ true) → Continues t
         → SpellsGapped v (gapped_from (last_letter l t) false sequence)
         → SpellsGapped (blank_if a ++ (t ++ v)) (gapped_from l a (t ++ sequence))) →
         (b : Bool) → (c == blank) ≡ b → (a : Bool) → (a ≡ true → first_is_word (c ∷ t) ≡ true)
@@ -67,7 +67,7 @@ letters_spell last apart (c ∷ t) v sequence starts on s = by_letter (λ l a. l
         gap true true later = (1, omega arith, t ++ v, refl, later)
 
 -- the first letter of a token after another token, with a blank where both letters are of kind Word
-token_spells : (last d : ℕ) (t v sequence : List ℕ) → (d == blank) ≡ false → GoesOn t → SpellsGapped v (gapped_from (last_letter d t) false sequence) →
+token_spells : (last d : ℕ) (t v sequence : List ℕ) → (d == blank) ≡ false → Continues t → SpellsGapped v (gapped_from (last_letter d t) false sequence) →
     SpellsGapped (blank_if (is_word last && is_word d) ++ ((d ∷ t) ++ v)) (gapped_from last true ((d ∷ t) ++ sequence))
 token_spells last d t v sequence h on s =
     rw (gapped_from-letter last true d (t ++ sequence) h) (gap (is_word last && is_word d) (letters_spell d false t v sequence (λ e. absurd (true≢false (sym e))) on s))
@@ -88,7 +88,7 @@ last_kept d e t =
     let more : reverse (e ∷ t) ≡ reverse t ++ e ∷ [] = reverse-append (e ∷ []) t in
     ap first_is_word (reverse-append (d ∷ []) (e ∷ t)) ∙ ap (λ l. first_is_word (l ++ d ∷ [])) more ∙ first_kept (reverse t) e d ∙ ap first_is_word (sym more)
 
-ends : (d : ℕ) (t : List ℕ) → GoesOn t → first_is_word (reverse (d ∷ t)) ≡ is_word (last_letter d t)
+ends : (d : ℕ) (t : List ℕ) → Continues t → first_is_word (reverse (d ∷ t)) ≡ is_word (last_letter d t)
 ends d [] on = refl
 ends d (e ∷ t) on = by_letter (λ l. ends l t on.1) (e == blank) refl
   where
@@ -160,15 +160,15 @@ chars-spelled (t ∷ u ∷ ts) all =
 
 -- ---- texts of tokens
 
-GoesOn-each : (cs : List ℕ) → ((f r : List ℕ) → cs ≡ f ++ blank ∷ r → first_is_word r ≡ true) → GoesOn cs
-GoesOn-each [] each = tt
-GoesOn-each (c ∷ cs) each = (λ is. each [] cs (ap (λ x. x ∷ cs) is), GoesOn-each cs (λ f r e. each (c ∷ f) r (ap (λ l. c ∷ l) e)))
+Continues-each : (cs : List ℕ) → ((f r : List ℕ) → cs ≡ f ++ blank ∷ r → first_is_word r ≡ true) → Continues cs
+Continues-each [] each = tt
+Continues-each (c ∷ cs) each = (λ is. each [] cs (ap (λ x. x ∷ cs) is), Continues-each cs (λ f r e. each (c ∷ f) r (ap (λ l. c ∷ l) e)))
 
 IsSequence-each : (cs : List ℕ) → (cs ≡ [] → ⊥) → ((r : List ℕ) → cs ≡ blank ∷ r → ⊥) → ((f r : List ℕ) → cs ≡ f ++ blank ∷ r → first_is_word r ≡ true) → IsSequence cs
 IsSequence-each [] some first each = some refl
 IsSequence-each (c ∷ cs) some first each = (
   ne_eqb c blank (λ is. first cs (ap (λ x. x ∷ cs) is)),
-  (GoesOn-each (c ∷ cs) each).1,
+  (Continues-each (c ∷ cs) each).1,
 )
 
 scalars-following : (f r : List ℕ) → scalars (f ++ blank ∷ r) ≡ true → scalars r ≡ true

@@ -18,7 +18,7 @@ use Rattle.lic_markup.specs.Parts.{Node, sequence, sequence_weight, sequence_has
 use Rattle.lic_markup.specs.Reading.{max_depth, max_length, max_weight, reported}
 use Rattle.lic_markup.specs.Templates.{Item, AreItems, AreParts}
 
--- None of these elements is at fault, and they lead from so many open optional parts to so many.
+-- None of these elements is at fault, and they lead from one depth to another: how many optional parts are open.
 pub data AreSound : ℕ → List Element → ℕ → Type 0 where
   none : {depth : ℕ} → AreSound depth [] depth
   piece : {depth end : ℕ} {cs : List Located} {es : List Element} → AreSound depth es end
@@ -31,7 +31,7 @@ pub data AreSound : ℕ → List Element → ℕ → Type 0 where
   finish : {depth end offset : ℕ} {es : List Element} → AreSound depth es end
       → AreSound (suc depth) (rule (rules.finish offset) ∷ es) end
 
--- an element at fault, with so many optional parts open
+-- an element at fault, at a depth
 pub data IsAtFault : ℕ → Element → MarkupFault → Type 0 where
   -- a rule that is at fault by itself
   of_rule : {depth : ℕ} {e : MarkupFault} → IsAtFault depth (refused e) e
@@ -40,7 +40,7 @@ pub data IsAtFault : ℕ → Element → MarkupFault → Type 0 where
   too_deep : {depth offset : ℕ} → max_depth ≤ depth → IsAtFault depth (rule (rules.begin offset)) (fault_at offset TooDeep)
   no_begin : {offset : ℕ} → IsAtFault 0 (rule (rules.finish offset)) (fault_at offset EndWithoutBegin)
 
--- These elements lead from so many open optional parts to so many, however deep, and end none that is not counted.
+-- These elements lead from one number of open optional parts to another, however deep, and end none that is not counted.
 pub data Lead : ℕ → List Element → ℕ → Type 0 where
   nowhere : {open_parts : ℕ} → Lead open_parts [] open_parts
   on : {open_parts end : ℕ} {cs : List Located} {es : List Element} → Lead open_parts es end

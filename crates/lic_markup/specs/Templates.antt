@@ -108,7 +108,7 @@ pub data AreItems (line_rules : LineRules) (words : List Phrase) : List Element 
       → IsItem line_rules words before after e i
       → AreItems line_rules words (before ++ e ∷ []) after is → AreItems line_rules words before (e ∷ after) (i ∷ is)
 
--- parts in a row, inside so many optional parts; a piece without letters gives no part
+-- parts one after another, at a depth of optional parts; a piece without letters gives no part
 pub data AreParts : ℕ → List Item → List Node → Type 0 where
   no_part : {depth : ℕ} → AreParts depth [] []
   no_letters : {depth : ℕ} {is : List Item} {ns : List Node} → AreParts depth is ns

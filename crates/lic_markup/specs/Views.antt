@@ -6,7 +6,7 @@ use Rattle.lic_elements.specs.declared.elements.Element.{Element}
 use Rattle.lic_elements.specs.Elements as elements
 use Rattle.lic_elements.specs.Views.{element_of}
 use Rattle.lic_markup.specs.declared.reader.Level.{Level}
-use Rattle.lic_markup.specs.declared.reader.Reader.{Reader}
+use Rattle.lic_markup.specs.declared.reader.TemplateReader.{TemplateReader}
 use Rattle.lic_markup.specs.Parts.{part_of}
 use Rattle.lic_markup.specs.Reading as reading
 
@@ -21,7 +21,7 @@ level_of l = record { offset = l.offset; parts = map part_of l.parts.items }
 abbrev pub levels_of : List Level → List reading.Level
 levels_of ls = reverse (map level_of ls)
 
-abbrev pub state_of : Reader → reading.State
+abbrev pub state_of : TemplateReader → reading.State
 state_of r =
     record {
       level = level_of r.level;

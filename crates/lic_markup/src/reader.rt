@@ -62,7 +62,7 @@ impl Level {
 
 /// The innermost level, and those round it.
 #[derive(Drop)]
-pub struct Reader {
+pub struct TemplateReader {
     pub level: Level,
     /// The innermost one is last.
     pub outer: Vec<Level>,
@@ -96,13 +96,13 @@ fn reported_again(fault: MarkupFault) -> MarkupFault
     }
 }
 
-impl Reader {
+impl TemplateReader {
     /// Before the first element.
-    pub fn new(alloc: Global) -> Reader
+    pub fn new(alloc: Global) -> TemplateReader
         ensures state { state_of result ≡ reading.start }
         ensures texts { HasReadTexts (state_of result) }
     {
-        Reader {
+        TemplateReader {
             level: Level::new(alloc, 0),
             outer: Vec::new(alloc),
             original: String::new(alloc),
@@ -247,7 +247,7 @@ impl Reader {
         ensures light { IfOk result (λ t. t.weight ≤ 131072) }
         ensures some_token { IfOk result (λ t. GiveToken t.parts) }
     {
-        let Reader {
+        let TemplateReader {
             level,
             outer,
             original,

@@ -10,7 +10,7 @@ ghost use Rattle.lic_markup.specs.Views.{placed_of};
 
 use crate::lines::with_next;
 use crate::part::Template;
-use crate::reader::Reader;
+use crate::reader::TemplateReader;
 use lic_elements::{Element, MarkupCause, MarkupFault, pieces_and_rules};
 use lic_kind::Rules;
 use lic_norm::Words;
@@ -33,7 +33,7 @@ fn read_elements(
     ensures light { IfOk result (λ t. t.weight ≤ 131072) }
     ensures some_token { IfOk result (λ t. GiveToken t.parts) }
 {
-    let mut reader = Reader::new(alloc);
+    let mut reader = TemplateReader::new(alloc);
     let mut elements = elements;
     while let Some((element, follows)) = elements.pop() {
         reader.meet(alloc, rules, words, element, follows)?;

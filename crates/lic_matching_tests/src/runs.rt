@@ -238,7 +238,7 @@ fn try_from_the_end(
 }
 
 #[test]
-fn a_run_from_the_end_tells_what_begins_here(rt: HostRuntime) -> Result<(), Fail> {
+fn a_run_from_the_end_says_what_begins_here(rt: HostRuntime) -> Result<(), Fail> {
     for (tokens, wanted) in BACK {
         try_from_the_end(&rt, rt.alloc(), tokens, wanted)?;
     }

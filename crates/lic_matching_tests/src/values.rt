@@ -67,7 +67,7 @@ const TWO: &str =
 
 const BEFORE: &str = r#"<<var;name="c";original="";match=".{0,5000}">> foo bar"#;
 
-const BEHIND: &str =
+const LAST: &str =
     r#"q<<beginOptional>> b<<endOptional>> <<var;name="v";original="";match=".*">>"#;
 
 const ABSENT: &str =
@@ -79,7 +79,7 @@ const WORKED: &[(&str, &str, usize, usize, &str)] = &[
     (TWO, "x of y of z", 0, 2, "a 0 1;b 5 6;"),
     (BEFORE, "x y foo bar", 0, 3, "c 0 3;"),
     (BEFORE, "x y foo bar", 2, 3, "c -;"),
-    (BEHIND, "q b", 0, 1, "v -;"),
+    (LAST, "q b", 0, 1, "v -;"),
     (ABSENT, "q b", 0, 1, "w -;v 2 3;"),
 ];
 

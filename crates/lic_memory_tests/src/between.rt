@@ -135,7 +135,7 @@ fn finds(finder: &mut Finder<'_>, matches: &[(usize, usize, usize)]) -> bool {
 }
 
 /// Whether the bytes of each token are bytes of the source, and its text is part of the canonical spelling.
-fn tells_tokens(text: &Text) -> bool {
+fn has_tokens(text: &Text) -> bool {
     let mut count = 0usize;
     for k in 0..text.len() {
         let token = text.token(k);
@@ -147,7 +147,7 @@ fn tells_tokens(text: &Text) -> bool {
 }
 
 /// Whether each template has parts, a weight and an original text.
-fn tells_templates(set: &Set) -> bool {
+fn has_templates(set: &Set) -> bool {
     for k in 0..set.len() {
         let template = set.template(k);
         let is_known = !set.id(k).is_empty() && !template.original().is_empty();
@@ -168,7 +168,7 @@ fn answers(machines: &mut Machines<'_>, text: &Text, case: &Case) -> bool {
         && reads_back(back, text)
 }
 
-/// Whether what is made is told and the machines answer rightly between two signs.
+/// Whether tokens, templates and machines answer rightly between two signs.
 fn answers_between(
     alloc: Global,
     machines: &mut Machines<'_>,
@@ -177,7 +177,7 @@ fn answers_between(
     case: &Case,
 ) -> bool {
     let is_begun = sign(alloc);
-    let is_right = tells_tokens(text) && tells_templates(set) && answers(machines, text, case);
+    let is_right = has_tokens(text) && has_templates(set) && answers(machines, text, case);
     let is_ended = sign(alloc);
     is_begun & is_ended & is_right
 }
@@ -207,8 +207,8 @@ fn fed<'w>(alloc: Global, lists: &'w Lists) -> Result<Feeder<'w>, Refused> {
     Ok(feeder)
 }
 
-/// Whether a feeder tells its settled tokens.
-fn tells_settled(feeder: &Feeder<'_>) -> bool {
+/// Whether a feeder has settled tokens, each of one byte.
+fn has_settled(feeder: &Feeder<'_>) -> bool {
     let mut count = 0usize;
     for k in 0..feeder.ready() {
         let token = feeder.token(k);
@@ -229,7 +229,7 @@ fn makes(alloc: Global) -> bool {
 }
 
 /// Whether a set of a pattern and the kinds of characters are as they should.
-fn tells_letters(pattern: &Ere) -> bool {
+fn knows_letters(pattern: &Ere) -> bool {
     let is_set = match pattern {
         Ere::Set(class) => class.has('b') && !class.has('e'),
         _ => false,
@@ -250,12 +250,12 @@ fn pattern_of(rt: &impl Abort, alloc: Global) -> Ere {
     read.expect(rt, "a pattern")
 }
 
-/// Whether what is empty is made, and what is settled and read is told, between two signs.
-fn tells_between(alloc: Global, feeder: &Feeder<'_>, pattern: &Ere) -> bool {
+/// Whether what is empty is made, and what is settled and read is right, between two signs.
+fn makes_between(alloc: Global, feeder: &Feeder<'_>, pattern: &Ere) -> bool {
     let is_begun = sign(alloc);
-    let is_told = makes(alloc) && tells_settled(feeder) && tells_letters(pattern);
+    let is_right = makes(alloc) && has_settled(feeder) && knows_letters(pattern);
     let is_ended = sign(alloc);
-    is_begun & is_ended & is_told
+    is_begun & is_ended & is_right
 }
 
 #[test]
@@ -263,7 +263,7 @@ fn what_is_made_empty_takes_no_memory(rt: HostRuntime) {
     let lists = profile(rt.alloc());
     let feeder = retried(&rt, || fed(rt.alloc(), &lists));
     let pattern = pattern_of(&rt, rt.alloc());
-    assert!(rt; tells_between(rt.alloc(), &feeder, &pattern));
+    assert!(rt; makes_between(rt.alloc(), &feeder, &pattern));
 }
 
 /// Whether the kernels on words give the rows that they should.

@@ -203,7 +203,7 @@ fn finds_all(alloc: Global, set: &Set, text: &Text, case: &Case) -> Result<bool,
 }
 
 /// Whether the matches of a case are matches, and the other ranges are none.
-fn tells_matches(alloc: Global, set: &Set, text: &Text, case: &Case) -> Result<bool, Refused> {
+fn knows_matches(alloc: Global, set: &Set, text: &Text, case: &Case) -> Result<bool, Refused> {
     Ok(
         are_matches(alloc, set, text, case.matches, true)?
             && are_matches(alloc, set, text, case.others, false)?,
@@ -221,7 +221,7 @@ fn answers(alloc: Global, set: &Set, text: &Text, case: &Case) -> Result<bool, R
     Ok(
         keeps_all(alloc, set, text)?
             && finds_all(alloc, set, text, case)?
-            && tells_matches(alloc, set, text, case)?
+            && knows_matches(alloc, set, text, case)?
             && reads(alloc, set, text, case)?,
     )
 }
@@ -320,9 +320,9 @@ fn spans_of(
 /// Whether two matches go on with the whole, and it has its two values.
 fn has_values(rt: &impl Abort, alloc: Global, set: &Set, text: &Text) -> bool {
     let whole = of(0, 4);
-    let goes_on = gone_on(rt, alloc, set, text) == (Some(whole), Some(whole));
+    let is_right = gone_on(rt, alloc, set, text) == (Some(whole), Some(whole));
     let wanted = (Span { start: 0, end: 1 }, Span { start: 5, end: 11 });
-    goes_on & (spans_of(rt, alloc, set, text, whole) == Some(wanted))
+    is_right & (spans_of(rt, alloc, set, text, whole) == Some(wanted))
 }
 
 #[test]

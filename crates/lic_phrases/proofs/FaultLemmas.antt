@@ -41,16 +41,16 @@ fault_of-many before phrase many =
     ap (λ b. cond b (Some TooManyPhrases) (fault_of_phrase phrase)) yes
 
 -- what is reported for a cause
-pub fault_at-told : (number : ℕ) (cause : WordsCause) (first : Option WordsFault)
+pub fault_at-reported : (number : ℕ) (cause : WordsCause) (first : Option WordsFault)
     → (first ≡ Some (record { line = number; cause = cause })) ⊎ (cause ≡ OutOfMemory)
     → (first ≡ Some (fault_at number cause)) ⊎ (fault_at number cause ≡ out_of_memory)
-fault_at-told number EmptyPhrase first (inl e) = inl e
-fault_at-told number EmptyPhrase first (inr e) = absurd (let h : EmptyPhrase ≡ OutOfMemory = e in cc)
-fault_at-told number TooManyPhrases first (inl e) = inl e
-fault_at-told number TooManyPhrases first (inr e) = absurd (let h : TooManyPhrases ≡ OutOfMemory = e in cc)
-fault_at-told number PhraseTooLong first (inl e) = inl e
-fault_at-told number PhraseTooLong first (inr e) = absurd (let h : PhraseTooLong ≡ OutOfMemory = e in cc)
-fault_at-told number OutOfMemory first e = inr refl
+fault_at-reported number EmptyPhrase first (inl e) = inl e
+fault_at-reported number EmptyPhrase first (inr e) = absurd (let h : EmptyPhrase ≡ OutOfMemory = e in cc)
+fault_at-reported number TooManyPhrases first (inl e) = inl e
+fault_at-reported number TooManyPhrases first (inr e) = absurd (let h : TooManyPhrases ≡ OutOfMemory = e in cc)
+fault_at-reported number PhraseTooLong first (inl e) = inl e
+fault_at-reported number PhraseTooLong first (inr e) = absurd (let h : PhraseTooLong ≡ OutOfMemory = e in cc)
+fault_at-reported number OutOfMemory first e = inr refl
 
 -- the rest of a line holds a fault, and the whole line before it none
 pub has_fault_at : (line : List (List (List ℕ))) (k before count : ℕ) (phrase : List (List ℕ)) (cause : WordsCause)
@@ -88,7 +88,7 @@ pub line_has_fault : (lines : List (List (List (List ℕ)))) (k count : ℕ) (li
     → HasFault line count cause ⊎ (cause ≡ OutOfMemory)
     → (first ≡ Some (fault_at (k + 1) cause)) ⊎ (fault_at (k + 1) cause ≡ out_of_memory)
 line_has_fault lines k count line cause first sound within is (inl fault) =
-    fault_at-told (k + 1) cause first
+    fault_at-reported (k + 1) cause first
     (inl (sound ∙ ap (fault_from count) (located-drop lines k (k + 1) line within is)
     ∙ fault (k + 1) (located (k + 1 + 1) (drop (k + 1) lines))))
-line_has_fault lines k count line cause first sound within is (inr memory) = fault_at-told (k + 1) cause first (inr memory)
+line_has_fault lines k count line cause first sound within is (inr memory) = fault_at-reported (k + 1) cause first (inr memory)

@@ -13,7 +13,7 @@ use Rattle.lic_phrases.specs.Waiting.{texts_of, first_phrase, phrase_found, coun
 use Rattle.lic_phrases.specs.declared.rewriter.merging.Found.{Found}
 use Rattle.lic_phrases.specs.declared.final_token.FinalToken.{FinalToken}
 use Rattle.lic_phrases.proofs.PhraseKeyLemmas.{HaveNoSeparator, HaveNoSeparator-take, utf8_has_none, key_texts-key_of, IsKey-key_of}
-use Rattle.lic_phrases.proofs.PhraseLemmas.{StandWithin, StandWithin-min, StandWithin-from, StandWithin-length, first_phrase-longest, longest_phrase-decided, phrases_joined-first}
+use Rattle.lic_phrases.proofs.PhraseLemmas.{BeginWithin, BeginWithin-min, BeginWithin-from, BeginWithin-length, first_phrase-longest, longest_phrase-decided, phrases_joined-first}
 
 tokens_have_none : (items : List FirstToken) → HaveNoSeparator (texts_of (tokens_in items))
 tokens_have_none [] = tt
@@ -123,11 +123,11 @@ GivesMore-first list at_end given (t ∷ items) first most found given' items' s
     let size : length ts ≡ length items = length-map items token_in in
     let from_t : longest_from words (small_bytes t.text) ≤ most = subst (λ u. longest_from words (small_bytes u.text) ≤ most) is bound in
     let n = min most (length (t ∷ items)) in
-    let standing : StandWithin n words (token_in t ∷ ts) =
-    StandWithin-min most (length (t ∷ items)) words (token_in t ∷ ts) (StandWithin-from most words (token_in t) ts tokens from_t)
-    (subst (λ k. StandWithin k words (token_in t ∷ ts)) (ap suc size) (StandWithin-length words (token_in t ∷ ts))) in
+    let begin_within : BeginWithin n words (token_in t ∷ ts) =
+    BeginWithin-min most (length (t ∷ items)) words (token_in t ∷ ts) (BeginWithin-from most words (token_in t) ts tokens from_t)
+    (subst (λ k. BeginWithin k words (token_in t ∷ ts)) (ap suc size) (BeginWithin-length words (token_in t ∷ ts))) in
     let longest : option_map (phrase_found list.spellings (token_in t ∷ ts)) found ≡ longest_phrase words (token_in t ∷ ts) =
-    found_is ∙ first_phrase-longest n words (token_in t ∷ ts) (omega arith) tokens standing in
+    found_is ∙ first_phrase-longest n words (token_in t ∷ ts) (omega arith) tokens begin_within in
     let decided : longest_phrase words (token_in t ∷ (ts ++ rest)) ≡ longest_phrase words (token_in t ∷ ts) =
     (⊎_elim
     (λ at. ap (λ l. longest_phrase words (token_in t ∷ (ts ++ l))) (ends at) ∙ ap (λ l. longest_phrase words (token_in t ∷ l)) (append-nil ts))

@@ -31,10 +31,10 @@ begin_with_texts-texts (text ∷ texts) (t ∷ ts) h =
     ap₂ (λ x l. x ∷ l) ((bytes_eq-Decides text t.text).0 parts.0) (begin_with_texts-texts texts ts parts.1)
 
 -- and the texts of the first tokens are
-texts-stand : (n : ℕ) (ts : List Token) → begin_with_texts (take n (texts_of ts)) ts ≡ true
-texts-stand zero ts = refl
-texts-stand (suc n) [] = refl
-texts-stand (suc n) (t ∷ ts) = ap₂ (λ a b. a && b) ((bytes_eq-Decides t.text t.text).1 refl) (texts-stand n ts)
+texts-begin : (n : ℕ) (ts : List Token) → begin_with_texts (take n (texts_of ts)) ts ≡ true
+texts-begin zero ts = refl
+texts-begin (suc n) [] = refl
+texts-begin (suc n) (t ∷ ts) = ap₂ (λ a b. a && b) ((bytes_eq-Decides t.text t.text).1 refl) (texts-begin n ts)
 
 same-is : (a b : List (List ℕ)) → same_texts a b ≡ true → a ≡ b
 same-is a b h = (slice_eq-Decides bytes_eq-Decides a b (same_texts a b) refl).0 h
@@ -57,9 +57,9 @@ phrase_with-texts (q ∷ words) texts p h =
 -- ---- the longest phrase
 
 -- each phrase that comes first has at most n tokens
-abbrev pub StandWithin : ℕ → List Phrase → List Token → Type 0
-StandWithin n [] ts = Unit {0}
-StandWithin n (p ∷ words) ts = (begin_with_texts p.texts ts ≡ true → length p.texts ≤ n) × StandWithin n words ts
+abbrev pub BeginWithin : ℕ → List Phrase → List Token → Type 0
+BeginWithin n [] ts = Unit {0}
+BeginWithin n (p ∷ words) ts = (begin_with_texts p.texts ts ≡ true → length p.texts ≤ n) × BeginWithin n words ts
 
 -- a phrase, if there is one, has at most n tokens
 abbrev pub IsWithin : ℕ → Option Phrase → Type 0
@@ -74,7 +74,7 @@ longer-within n p (Some q) h k =
     (λ not_less. subst (λ r. IsWithin n (Some r)) (sym (cond-false (nat_lt (length p.texts) (length q.texts)) q p not_less)) h)
     (cases_Bool (nat_lt (length p.texts) (length q.texts)))
 
-pub longest_phrase-within : (n : ℕ) (words : List Phrase) (ts : List Token) → StandWithin n words ts → IsWithin n (longest_phrase words ts)
+pub longest_phrase-within : (n : ℕ) (words : List Phrase) (ts : List Token) → BeginWithin n words ts → IsWithin n (longest_phrase words ts)
 longest_phrase-within n [] ts h = tt
 longest_phrase-within n (p ∷ words) ts h =
     let rest = longest_phrase-within n words ts h.1 in
@@ -91,7 +91,7 @@ longer-first p None h = refl
 longer-first p (Some q) h = cond-false (nat_lt (length p.texts) (length q.texts)) q p (grind (arith, nat_tests))
 
 -- where no phrase that occurs has a token, there is no longest
-pub longest_phrase-none : (words : List Phrase) (ts : List Token) → HaveTokens words → StandWithin 0 words ts → longest_phrase words ts ≡ None
+pub longest_phrase-none : (words : List Phrase) (ts : List Token) → HaveTokens words → BeginWithin 0 words ts → longest_phrase words ts ≡ None
 longest_phrase-none [] ts some h = refl
 longest_phrase-none (p ∷ words) ts some h =
     ⊎_elim
@@ -102,19 +102,19 @@ longest_phrase-none (p ∷ words) ts some h =
 
 -- a phrase of n tokens that occurs is the longest where no longer one is
 longest_phrase-found : (n : ℕ) (words : List Phrase) (ts : List Token) (p : Phrase) → n ≤ length ts
-    → StandWithin n words ts → phrase_with words (take n (texts_of ts)) ≡ Some p → longest_phrase words ts ≡ Some p
+    → BeginWithin n words ts → phrase_with words (take n (texts_of ts)) ≡ Some p → longest_phrase words ts ≡ Some p
 longest_phrase-found n [] ts p fits h found = cc
 longest_phrase-found n (q ∷ words) ts p fits h found =
     let texts = take n (texts_of ts) in
     let size : length texts ≡ n = length-take-le n (texts_of ts) (omega (arith, length-map ts (λ t. t.text))) in
-    let standing = cond-true (begin_with_texts q.texts ts) (Some (longer q (longest_phrase words ts))) (longest_phrase words ts) in
+    let begin_within = cond-true (begin_with_texts q.texts ts) (Some (longer q (longest_phrase words ts))) (longest_phrase words ts) in
     ⊎_elim
     (λ same.
     let is : Some q ≡ Some p = sym (cond-true (same_texts texts q.texts) (Some q) (phrase_with words texts) same) ∙ found in
     let q_texts : texts ≡ q.texts = same-is texts q.texts same in
-    let there : begin_with_texts q.texts ts ≡ true = subst (λ l. begin_with_texts l ts ≡ true) q_texts (texts-stand n ts) in
+    let there : begin_with_texts q.texts ts ≡ true = subst (λ l. begin_with_texts l ts ≡ true) q_texts (texts-begin n ts) in
     let long : n ≡ length q.texts = sym size ∙ ap length q_texts in
-    standing there ∙ ap Some (longer-first q (longest_phrase words ts)
+    begin_within there ∙ ap Some (longer-first q (longest_phrase words ts)
     (subst (λ k. IsWithin k (longest_phrase words ts)) long (longest_phrase-within n words ts h.1))) ∙ is)
     (λ other.
     let later : phrase_with words texts ≡ Some p = sym (cond-false (same_texts texts q.texts) (Some q) (phrase_with words texts) other) ∙ found in
@@ -128,7 +128,7 @@ longest_phrase-found n (q ∷ words) ts p fits h found =
     (λ less. less)
     (λ as_long. absurd (true≢false (sym (is-same texts q.texts (sym (begin_with_texts-texts q.texts ts there ∙ ap (λ k. take k (texts_of ts)) as_long))) ∙ other)))
     (below_or_same (length q.texts) n at_most)) in
-    standing there
+    begin_within there
     ∙ ap (λ best. Some (longer q best)) rest
     ∙ ap Some (cond-true (nat_lt (length q.texts) (length p.texts)) p q (lt-ltb (length q.texts) (length p.texts) (omega (arith, shorter, p_long)))))
     (λ missing. cond-false (begin_with_texts q.texts ts) (Some (longer q (longest_phrase words ts))) (longest_phrase words ts) missing ∙ rest)
@@ -136,10 +136,10 @@ longest_phrase-found n (q ∷ words) ts p fits h found =
     (cases_Bool (same_texts texts q.texts))
 
 -- where no phrase has n + 1 of these texts, those that occur have at most n
-StandWithin-less : (n : ℕ) (words : List Phrase) (ts : List Token) → StandWithin (suc n) words ts
-    → phrase_with words (take (suc n) (texts_of ts)) ≡ None → StandWithin n words ts
-StandWithin-less n [] ts h none = tt
-StandWithin-less n (q ∷ words) ts h none =
+BeginWithin-less : (n : ℕ) (words : List Phrase) (ts : List Token) → BeginWithin (suc n) words ts
+    → phrase_with words (take (suc n) (texts_of ts)) ≡ None → BeginWithin n words ts
+BeginWithin-less n [] ts h none = tt
+BeginWithin-less n (q ∷ words) ts h none =
     let texts = take (suc n) (texts_of ts) in
     ⊎_elim
     (λ same. let no : Some q ≡ None = sym (cond-true (same_texts texts q.texts) (Some q) (phrase_with words texts) same) ∙ none in cc)
@@ -149,16 +149,16 @@ StandWithin-less n (q ∷ words) ts h none =
           (λ less. omega (arith, less))
           (λ as_long. absurd (true≢false (sym (is-same texts q.texts (sym (begin_with_texts-texts q.texts ts there ∙ ap (λ k. take k (texts_of ts)) as_long))) ∙ other)))
           (below_or_same (length q.texts) (suc n) (h.0 there)),
-      StandWithin-less n words ts h.1 (sym (cond-false (same_texts texts q.texts) (Some q) (phrase_with words texts) other) ∙ none),
+      BeginWithin-less n words ts h.1 (sym (cond-false (same_texts texts q.texts) (Some q) (phrase_with words texts) other) ∙ none),
     ))
     (cases_Bool (same_texts texts q.texts))
 
 -- the longest prefix that is a phrase is the longest phrase that occurs, where the prefixes reach far enough
 pub first_phrase-longest : (n : ℕ) (words : List Phrase) (ts : List Token) → n ≤ length ts → HaveTokens words
-    → StandWithin n words ts → first_phrase words (texts_of ts) n ≡ longest_phrase words ts
+    → BeginWithin n words ts → first_phrase words (texts_of ts) n ≡ longest_phrase words ts
 first_phrase-longest zero words ts fits some h = sym (longest_phrase-none words ts some h)
 first_phrase-longest (suc n) words ts fits some h =
-    by (phrase_with words (take (suc n) (texts_of ts))) refl (λ none. first_phrase-longest n words ts (omega arith) some (StandWithin-less n words ts h none))
+    by (phrase_with words (take (suc n) (texts_of ts))) refl (λ none. first_phrase-longest n words ts (omega arith) some (BeginWithin-less n words ts h none))
   where
     by : (o : Option Phrase) → phrase_with words (take (suc n) (texts_of ts)) ≡ o
         → (phrase_with words (take (suc n) (texts_of ts)) ≡ None
@@ -170,9 +170,9 @@ first_phrase-longest (suc n) words ts fits some h =
 -- ---- how many tokens it takes
 
 -- no phrase that occurs has more tokens than there are
-pub StandWithin-length : (words : List Phrase) (ts : List Token) → StandWithin (length ts) words ts
-StandWithin-length [] ts = tt
-StandWithin-length (p ∷ words) ts = (begin_with_texts-length p.texts ts, StandWithin-length words ts)
+pub BeginWithin-length : (words : List Phrase) (ts : List Token) → BeginWithin (length ts) words ts
+BeginWithin-length [] ts = tt
+BeginWithin-length (p ∷ words) ts = (begin_with_texts-length p.texts ts, BeginWithin-length words ts)
 
 longest_from-first : (p : Phrase) (words : List Phrase) (text : List ℕ) → begins_with text p.texts ≡ true → length p.texts ≤ longest_from (p ∷ words) text
 longest_from-first p words text begins =
@@ -192,17 +192,17 @@ begin_with_texts-begins [] t ts some there = absurd (omega arith)
 begin_with_texts-begins (text ∷ texts) t ts some there = (and_parts (is_text text t) (begin_with_texts texts ts) there).0
 
 -- no phrase that occurs has more tokens than the longest that begins with the first token's text
-pub StandWithin-from : (most : ℕ) (words : List Phrase) (t : Token) (ts : List Token) → HaveTokens words
-    → longest_from words t.text ≤ most → StandWithin most words (t ∷ ts)
-StandWithin-from most [] t ts some bound = tt
-StandWithin-from most (p ∷ words) t ts some bound = (
+pub BeginWithin-from : (most : ℕ) (words : List Phrase) (t : Token) (ts : List Token) → HaveTokens words
+    → longest_from words t.text ≤ most → BeginWithin most words (t ∷ ts)
+BeginWithin-from most [] t ts some bound = tt
+BeginWithin-from most (p ∷ words) t ts some bound = (
   λ there. let long = longest_from-first p words t.text (begin_with_texts-begins p.texts t ts some.0 there) in omega arith,
-  StandWithin-from most words t ts some.1 (let less = longest_from-rest p words t.text in omega arith),
+  BeginWithin-from most words t ts some.1 (let less = longest_from-rest p words t.text in omega arith),
 )
 
-pub StandWithin-min : (m n : ℕ) (words : List Phrase) (ts : List Token) → StandWithin m words ts → StandWithin n words ts → StandWithin (min m n) words ts
-StandWithin-min m n [] ts h k = tt
-StandWithin-min m n (p ∷ words) ts h k = (λ there. omega (arith, h.0 there, k.0 there), StandWithin-min m n words ts h.1 k.1)
+pub BeginWithin-min : (m n : ℕ) (words : List Phrase) (ts : List Token) → BeginWithin m words ts → BeginWithin n words ts → BeginWithin (min m n) words ts
+BeginWithin-min m n [] ts h k = tt
+BeginWithin-min m n (p ∷ words) ts h k = (λ there. omega (arith, h.0 there, k.0 there), BeginWithin-min m n words ts h.1 k.1)
 
 -- ---- what follows
 
@@ -255,7 +255,7 @@ pub phrases_joined-first : (words : List Phrase) (t : Token) (ts rest : List Tok
     ∷ phrases_joined words (drop (count_after (longest_phrase words (t ∷ ts))) ts ++ rest)
 phrases_joined-first words t ts rest decided =
     let phrase = longest_phrase words (t ∷ ts) in
-    let within : IsWithin (suc (length ts)) phrase = longest_phrase-within (suc (length ts)) words (t ∷ ts) (StandWithin-length words (t ∷ ts)) in
+    let within : IsWithin (suc (length ts)) phrase = longest_phrase-within (suc (length ts)) words (t ∷ ts) (BeginWithin-length words (t ∷ ts)) in
     ap (λ p. first_as p t (ts ++ rest) ∷ phrases_after words (count_after p) (ts ++ rest)) decided
     ∙ ap₂ (λ u us. u ∷ us) (first_as-front phrase t ts rest within)
     (phrases_after-drop words (count_after phrase) (ts ++ rest)

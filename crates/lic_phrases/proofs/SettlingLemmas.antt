@@ -13,7 +13,7 @@ use Rattle.lic_phrases.specs.Held.{held}
 use Rattle.lic_phrases.specs.PhraseLists.{PhraseList, HaveTokens, longest_from}
 use Rattle.lic_phrases.specs.Waiting.{spanned_in, GivesMore}
 use Rattle.lic_phrases.specs.declared.final_token.FinalToken.{FinalToken}
-use Rattle.lic_phrases.proofs.PhraseLemmas.{longest_phrase-none, StandWithin-from}
+use Rattle.lic_phrases.proofs.PhraseLemmas.{longest_phrase-none, BeginWithin-from}
 use Rattle.lic_phrases.proofs.SignLemmas.{sign_sequences-other}
 use Rattle.lic_phrases.proofs.AddressLemmas.{https_as_http-other, https_as_http-few}
 
@@ -194,7 +194,7 @@ Settles-alone words t settled taken no_sign no_https some bound before =
     (λ rest. sign_sequences-other t rest no_sign)
     (λ rest.
     let past = https_as_http rest in
-    let none : longest_phrase words (t ∷ past) ≡ None = longest_phrase-none words (t ∷ past) some (StandWithin-from 0 words t past some bound) in
+    let none : longest_phrase words (t ∷ past) ≡ None = longest_phrase-none words (t ∷ past) some (BeginWithin-from 0 words t past some bound) in
     ap (λ l. settled ++ map spanned (phrases_joined words l)) (https_as_http-other t rest no_https)
     ∙ ap (λ phrase. settled ++ map spanned (first_as phrase t past ∷ phrases_after words (count_after phrase) past)) none
     ∙ sym (append_assoc settled one (left_of_sequences words nothing_kept rest)))

@@ -54,7 +54,7 @@ ReadsLine old old_heads new new_heads line =
     (lines : List (List (List (List ℕ)))) → HasRead [] lines [] (phrases_in old) old_heads []
     → HasRead [] (lines ++ line ∷ []) [] (phrases_in new) new_heads []
 
--- none of these phrases of a line is at fault, and so many come before and after them
+-- none of these phrases of a line is at fault, where `before` come before the first of them and `past` before what follows
 abbrev pub HasNoFault : List (List (List ℕ)) → ℕ → ℕ → Type 0
 HasNoFault line before past =
     (number : ℕ) (later : List (ℕ × List (List ℕ)))

@@ -65,7 +65,7 @@ IsKey key = key_of (key_texts key) ≡ key
 abbrev pub phrase_of : List (List ℕ) → List ℕ → ℕ → Phrase
 phrase_of spellings key class = record { texts = key_texts key; spelling = slice_index_or spellings class [] }
 
--- a key of one to eight texts with one of so many classes
+-- a key of one to eight texts with one of `count` classes
 pub record IsEntry (count : ℕ) (key : List ℕ) (class : ℕ) : Type 0 where
   pub is_key : IsKey key
   pub some : 0 < length (key_texts key)

@@ -56,7 +56,7 @@ GivesMore list at_end given waiting given' waiting' =
     (rest : List Token) → (at_end ≡ true → rest ≡ [])
     → given_and_left list given waiting rest ≡ given_and_left list given' waiting' rest
 
--- the class of a text, if it is the spelling of one, is one of so many
+-- the class of a text, if it is the spelling of one, is one of `count` classes
 abbrev pub IsKnownText : ℕ → TokenText → Type 0
 IsKnownText count (Own text) = Unit {0}
 IsKnownText count (Class class) = class < count

@@ -57,7 +57,7 @@ fault_of_phrase phrase =
     else (if nat_lt 8 (length phrase) || nat_lt 256 (length (spelled phrase)) then Some PhraseTooLong
     else None)
 
--- what is wrong with a phrase of which so many come before it in the file, repeats counted
+-- what is wrong with a phrase after `before` others in the file, repeats counted
 abbrev pub fault_of : ℕ → List (List ℕ) → Option WordsCause
 fault_of before phrase = if nat_le 4096 before then Some TooManyPhrases else fault_of_phrase phrase
 
@@ -71,7 +71,7 @@ abbrev pub fault_or : Option WordsCause → ℕ → Option WordsFault → Option
 fault_or (Some cause) number later = Some (record { line = number; cause = cause })
 fault_or None number later = later
 
--- the first fault of these phrases, of which so many come before them in the file
+-- the first fault of these phrases, which come after `before` others in the file
 abbrev pub fault_from : ℕ → List (ℕ × List (List ℕ)) → Option WordsFault
 fault_from before [] = None
 fault_from before (phrase ∷ phrases) = fault_or (fault_of before phrase.1) phrase.0 (fault_from (before + 1) phrases)

@@ -13,7 +13,7 @@ pub(crate) mod reader;
 use crate::fault::WordsFault;
 use crate::phrases::Phrases;
 use crate::words::phrase::ListedPhrase;
-use crate::words::reader::Reader;
+use crate::words::reader::WordsReader;
 use std::alloc::{AllocError, Global};
 use std::marker::Model;
 
@@ -102,7 +102,7 @@ impl Words {
         ensures refused { IfErr result (λ fault. (first_fault text.now ≡ Some fault)
             ⊎ (fault ≡ out_of_memory)) }
     {
-        let mut reader = Reader::new(alloc);
+        let mut reader = WordsReader::new(alloc);
         reader.read_lines(alloc, text)?;
         let phrases = with_representatives(alloc, reader.phrases, &reader.heads)?;
         Ok(Words { phrases })

@@ -42,10 +42,10 @@ feed_line line is = elim (last_of line) [
       let front = some.0 in
       let feed = some.1 in
       let last = λ (c : ℕ). c == 0x0A in
-      let told : ends_in_feed line ≡ (last feed.char && true) =
+      let given : ends_in_feed line ≡ (last feed.char && true) =
       ap ends_in_feed some.2 ∙ ap (ends_in last (λ front. true)) (map-append char_of front (feed ∷ []))
       ∙ ends_in-snoc last (λ front. true) (chars_of front) feed.char in
-      (front, feed, some.2, eqb-true feed.char 0x0A (both_true (last feed.char) (sym told ∙ is)))
+      (front, feed, some.2, eqb-true feed.char 0x0A (both_true (last feed.char) (sym given ∙ is)))
 ]
 
 -- a line that ends in one leaves a blank last

@@ -265,15 +265,15 @@ letter_taken tokens last o p c r q cs are is_scalar occurs between (inl is) read
     )
 letter_taken tokens last o p c r q cs are is_scalar occurs between (inr letter) reads = (letter.1, letter.2)
 
-letters_stand : (tokens : List TokenValue) (last o p q : ℕ) (cs : List ℕ) → AreTexts tokens → IsScalar last
+letters_are_at : (tokens : List TokenValue) (last o p q : ℕ) (cs : List ℕ) → AreTexts tokens → IsScalar last
     → Occurs (spelling_of tokens) o (encode last) p → AreBetween last cs → Reads tokens p cs q
     → Occurs (spelling_of tokens) p (encodes cs) q
-letters_stand tokens last o p q [] are is_scalar occurs between reads =
+letters_are_at tokens last o p q [] are is_scalar occurs between reads =
     subst (λ r. Occurs (spelling_of tokens) p [] r) reads (Occurs-nil (spelling_of tokens) p)
-letters_stand tokens last o p q (c ∷ cs) are is_scalar occurs between reads =
+letters_are_at tokens last o p q (c ∷ cs) are is_scalar occurs between reads =
     let taken = letter_taken tokens last o p c reads.0 q cs are is_scalar occurs between.0 reads.1 reads.2 in
     Occurs-append (spelling_of tokens) p (encode c) reads.0 (encodes cs) q taken.1
-    (letters_stand tokens c p reads.0 q cs are taken.0 taken.1 between.1 reads.2)
+    (letters_are_at tokens c p reads.0 q cs are taken.0 taken.1 between.1 reads.2)
 
 pub text_occurs : (tokens : List TokenValue) (text : List ℕ) (p q : ℕ) → AreTexts tokens → IsUtf8 text → IsPieceText text
     → 0 < length text → (IsTrue (is_blank_at text 0) → ⊥) → (IsAfterBlank text (length text) → ⊥)
@@ -291,7 +291,7 @@ text_occurs tokens text p q are utf8 piece some start after reads =
         let between = AreBetween-each c cs (λ front rest cut more.
         letters_between text utf8 piece after front rest (e ∙ cut) more) in
         Occurs-append (spelling_of tokens) p (encode c) r (encodes cs) q letter.2
-        (letters_stand tokens c p r q cs are letter.1 letter.2 between later)
+        (letters_are_at tokens c p r q cs are letter.1 letter.2 between later)
 
     by_letters : (cs : List ℕ) → chars text ≡ cs → Reads tokens p cs q → Occurs (spelling_of tokens) p (encodes cs) q
     by_letters [] e reads = subst (λ r. Occurs (spelling_of tokens) p [] r) reads (Occurs-nil (spelling_of tokens) p)

@@ -14,7 +14,7 @@ use Rattle.lic_phrases.specs.Spelling.{first_is_word}
 use Rattle.lic_norm.specs.Tokens.{TokenValue}
 use Rattle.lic_norm.specs.Places.{IsTokenEnd}
 use Rattle.lic_places.specs.Places.{IsAfterBlank, spelling_of}
-use Rattle.lic_places.proofs.TieReading.{StandGapped}
+use Rattle.lic_places.proofs.TieReading.{AreGappedAt}
 use Rattle.lic_places.proofs.TiePlaces.{drop-on, drop-blank, length-letter, not_after, has_letter, is_shut_inside, is_needed_before}
 
 -- no letter of a word is a blank
@@ -45,7 +45,7 @@ gapped_from-token last t cs ts c b are other words =
 module _ (tokens : List TokenValue) (whole : List ℕ) (apart : AreWordsApart whole) (start stop : ℕ)
     (inside : (p : ℕ) → start < p → p < stop → IsTokenEnd tokens p → ⊥) (after : List ℕ) (sequence : List ℕ) (e : ℕ)
     (go_on : (last : ℕ) → is_word last ≡ first_is_word (reverse whole) → (IsAfterBlank (spelling_of tokens) stop → ⊥)
-    → StandGapped tokens stop (gapped_from last false sequence) e) where
+    → AreGappedAt tokens stop (gapped_from last false sequence) e) where
   -- from some place inside on these letters occur, after one that is no blank
   pub record IsAt (front : List ℕ) (last p : ℕ) (cs : List ℕ) : Type 0 where
     pub parts : whole ≡ front ++ cs
@@ -56,18 +56,18 @@ module _ (tokens : List TokenValue) (whole : List ℕ) (apart : AreWordsApart wh
     pub forward : start < p
     pub stops : stop ≡ p + length (encode_utf8_all cs)
 
-  abbrev pub GoesOn : List ℕ → Type 0
-  GoesOn cs = (front : List ℕ) (last p : ℕ) → IsAt front last p cs → StandGapped tokens p (gapped_from last false (cs ++ sequence)) e
+  abbrev pub Continues : List ℕ → Type 0
+  Continues cs = (front : List ℕ) (last p : ℕ) → IsAt front last p cs → AreGappedAt tokens p (gapped_from last false (cs ++ sequence)) e
 
-  abbrev GoesOnAfter : List ℕ → Type 0
-  GoesOnAfter [] = Unit {0}
-  GoesOnAfter (d ∷ cs) = GoesOn cs
+  abbrev ContinuesAfter : List ℕ → Type 0
+  ContinuesAfter [] = Unit {0}
+  ContinuesAfter (d ∷ cs) = Continues cs
 
-  goes_end : GoesOn []
-  goes_end front last p at =
+  continues_end : Continues []
+  continues_end front last p at =
       let whole_front : whole ≡ front = at.parts ∙ append-nil front in
       let here : stop ≡ p = omega (arith, at.stops) in
-      subst (λ q. StandGapped tokens q (gapped_from last false sequence) e) here
+      subst (λ q. AreGappedAt tokens q (gapped_from last false sequence) e) here
       (go_on last (sym at.last_is ∙ ap (λ x. first_is_word (reverse x)) (sym whole_front))
       (λ blank_before. at.solid (subst (IsAfterBlank (spelling_of tokens)) here blank_before)))
 
@@ -86,8 +86,8 @@ module _ (tokens : List TokenValue) (whole : List ℕ) (apart : AreWordsApart wh
         stops = omega (arith, at.stops, length-append (encode_utf8 c) (encode_utf8_all cs));
       }
 
-  goes_letter : (c : ℕ) (cs : List ℕ) → GoesOn cs → (c == blank) ≡ false → GoesOn (c ∷ cs)
-  goes_letter c cs later h front last p at =
+  continues_letter : (c : ℕ) (cs : List ℕ) → Continues cs → (c == blank) ≡ false → Continues (c ∷ cs)
+  continues_letter c cs later h front last p at =
       let other = not_blank c h in
       let bytes = at.bytes ∙ append_assoc (encode_utf8 c) (encode_utf8_all cs) after in
       let next = next_place front last p c cs other at in
@@ -101,8 +101,8 @@ module _ (tokens : List TokenValue) (whole : List ℕ) (apart : AreWordsApart wh
       )
 
   -- a blank, and the letter after it
-  goes_over : (d : ℕ) (cs : List ℕ) → GoesOn cs → GoesOn (blank ∷ d ∷ cs)
-  goes_over d cs later front last p at =
+  continues_over : (d : ℕ) (cs : List ℕ) → Continues cs → Continues (blank ∷ d ∷ cs)
+  continues_over d cs later front last p at =
       let words = apart.apart front (d ∷ cs) at.parts in
       let other = word-other d words.1 in
       let scalars : all_scalars (d ∷ cs) ≡ true = at.scalars in
@@ -130,17 +130,17 @@ module _ (tokens : List TokenValue) (whole : List ℕ) (apart : AreWordsApart wh
         }),
       )
 
-  goes_blank : (cs : List ℕ) → GoesOnAfter cs → GoesOn (blank ∷ cs)
-  goes_blank [] later front last p at = absurd (let none : false ≡ true = (apart.apart front [] at.parts).1 in cc)
-  goes_blank (d ∷ cs) later front last p at = goes_over d cs later front last p at
+  continues_blank : (cs : List ℕ) → ContinuesAfter cs → Continues (blank ∷ cs)
+  continues_blank [] later front last p at = absurd (let none : false ≡ true = (apart.apart front [] at.parts).1 in cc)
+  continues_blank (d ∷ cs) later front last p at = continues_over d cs later front last p at
 
-  continues : (c : ℕ) (cs : List ℕ) → GoesOn cs → GoesOnAfter cs → (b : Bool) → (c == blank) ≡ b → GoesOn (c ∷ cs)
+  continues : (c : ℕ) (cs : List ℕ) → Continues cs → ContinuesAfter cs → (b : Bool) → (c == blank) ≡ b → Continues (c ∷ cs)
   continues c cs later after_blank true h =
       let same : blank ≡ c = sym (eqb-true c blank h) in
-      subst (λ x. GoesOn (x ∷ cs)) same (goes_blank cs after_blank)
-  continues c cs later after_blank false h = goes_letter c cs later h
+      subst (λ x. Continues (x ∷ cs)) same (continues_blank cs after_blank)
+  continues c cs later after_blank false h = continues_letter c cs later h
 
-  pub letters_stand : (cs : List ℕ) → GoesOn cs
-  letters_stand [] = goes_end
-  letters_stand (c ∷ []) = continues c [] goes_end tt (c == blank) refl
-  letters_stand (c ∷ d ∷ cs) = continues c (d ∷ cs) (letters_stand (d ∷ cs)) (letters_stand cs) (c == blank) refl
+  pub letters_are_at : (cs : List ℕ) → Continues cs
+  letters_are_at [] = continues_end
+  letters_are_at (c ∷ []) = continues c [] continues_end tt (c == blank) refl
+  letters_are_at (c ∷ d ∷ cs) = continues c (d ∷ cs) (letters_are_at (d ∷ cs)) (letters_are_at cs) (c == blank) refl

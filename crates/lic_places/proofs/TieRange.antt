@@ -14,19 +14,19 @@ use Rattle.lic_norm.specs.Tokens.{TokenValue}
 use Rattle.lic_norm.specs.Places.{place_start, place_end, texts_of}
 use Rattle.lic_places.specs.Places.{AreTexts, IsAfterBlank, spelling_of}
 use Rattle.lic_places.specs.Reads.{BeginsAt, Reads, ReadsTokens}
-use Rattle.lic_places.proofs.TieReading.{HasLetter, StandsGap, StandGapped, not_after_stay, read_gapped, spell_gapped}
+use Rattle.lic_places.proofs.TieReading.{HasLetter, HasGapAt, AreGappedAt, not_after_stay, read_gapped, spell_gapped}
 use Rattle.lic_places.proofs.TiePlaces.{is_free_before}
 use Rattle.lic_places.proofs.TieLetters.{gapped_from-token}
 use Rattle.lic_places.proofs.TieEnds.{text_at, place_start-first, bytes_from_start, text-utf8}
-use Rattle.lic_places.proofs.TieTokens.{token_occurs, tokens_stand, gap_before, text_written}
+use Rattle.lic_places.proofs.TieTokens.{token_occurs, tokens_are_at, gap_before, text_written}
 
 -- ---- the gap before a range
 
 -- letters between two places, after a gap at which blanks may be or have to
 module _ (tokens : List TokenValue) (c : ℕ) (gaps : List (Gap × ℕ)) (r s e : ℕ) (letter : HasLetter tokens r c s)
-    (later : StandGapped tokens s gaps e) (w : Word) where
+    (later : AreGappedAt tokens s gaps e) (w : Word) where
   -- if the word may have any number of blanks, it is read from before the gap, or from after it
-  read_free : (b : Bool) (p : ℕ) → StandsGap tokens p (gap_of true b) r → SpellsGapped w ((free, c) ∷ gaps)
+  read_free : (b : Bool) (p : ℕ) → HasGapAt tokens p (gap_of true b) r → SpellsGapped w ((free, c) ∷ gaps)
       → Reads tokens p w e ⊎ Reads tokens r w e
   read_free false p gap spells = inl (read_gapped tokens p ((free, c) ∷ gaps) e w (r, s, gap, letter, later) spells)
   read_free true p gap (zero, allows, v, is, spells) =
@@ -37,7 +37,7 @@ module _ (tokens : List TokenValue) (c : ℕ) (gaps : List (Gap × ℕ)) (r s e 
   weaker : (gap : Gap) → SpellsGapped w ((gap, c) ∷ gaps) → SpellsGapped w ((free, c) ∷ gaps)
   weaker gap (n, allows, v, is, spells) = (n, tt, v, is, spells)
 
-  spell_free : (b : Bool) (p : ℕ) → StandsGap tokens p (gap_of true b) r → Reads tokens p w e ⊎ Reads tokens r w e
+  spell_free : (b : Bool) (p : ℕ) → HasGapAt tokens p (gap_of true b) r → Reads tokens p w e ⊎ Reads tokens r w e
       → SpellsGapped w ((free, c) ∷ gaps)
   spell_free false p gap (inl read) = spell_gapped tokens e w p ((free, c) ∷ gaps) (r, s, gap, letter, later) read
   spell_free false p gap (inr read) =
@@ -50,14 +50,14 @@ module _ (tokens : List TokenValue) (c : ℕ) (gaps : List (Gap × ℕ)) (r s e 
 -- ---- where it begins
 
 module _ (tokens : List TokenValue) (first e : ℕ) (w : Word) where
-  from_gap : (b : Bool) (p : ℕ) → StandsGap tokens p (gap_of true b) (place_start tokens first)
+  from_gap : (b : Bool) (p : ℕ) → HasGapAt tokens p (gap_of true b) (place_start tokens first)
       → Reads tokens p w e ⊎ Reads tokens (place_start tokens first) w e
       → (q : ℕ) × BeginsAt tokens first q × Reads tokens q w e
   from_gap b p gap (inr read) = (place_start tokens first, inl refl, read)
   from_gap false p gap (inl read) = (p, inl gap.0, read)
   from_gap true p gap (inl read) = (p, inr (sym gap.next, (p, refl, gap.is_blank)), read)
 
-  to_gap : (b : Bool) (p : ℕ) → StandsGap tokens p (gap_of true b) (place_start tokens first) → (q : ℕ) → BeginsAt tokens first q
+  to_gap : (b : Bool) (p : ℕ) → HasGapAt tokens p (gap_of true b) (place_start tokens first) → (q : ℕ) → BeginsAt tokens first q
       → Reads tokens q w e → Reads tokens p w e ⊎ Reads tokens (place_start tokens first) w e
   to_gap b p gap q (inl is) read = inr (subst (λ x. Reads tokens x w e) is read)
   to_gap false p gap q (inr (next, blank_before)) read =
@@ -73,7 +73,7 @@ module _ (tokens : List TokenValue) (first e : ℕ) (w : Word) where
 module _ (tokens : List TokenValue) (known : AreTexts tokens) where
   -- the gap before a token, at which blanks may be or have to
   first_gap : (i c : ℕ) (cs : List ℕ) → i < length tokens → c ≢ blank → chars (text_at tokens i) ≡ c ∷ cs
-      → (b : Bool) × (p : ℕ) × StandsGap tokens p (gap_of true b) (place_start tokens i)
+      → (b : Bool) × (p : ℕ) × HasGapAt tokens p (gap_of true b) (place_start tokens i)
   first_gap zero c cs h other are =
       let start : 0 ≡ place_start tokens 0 = sym (place_start-first tokens h) in
       let after = bytes_from_start tokens 0 h in
@@ -107,7 +107,7 @@ module _ (tokens : List TokenValue) (known : AreTexts tokens) where
       let within : first < length tokens = omega arith in
       let e = place_end tokens (first + m) in
       let sequence = sequence_of (map chars (take m (drop (suc first) (texts_of tokens)))) in
-      let token = token_occurs tokens known first within sequence e (λ l l_is solid. tokens_stand tokens known m first l h l_is) in
+      let token = token_occurs tokens known first within sequence e (λ l l_is solid. tokens_are_at tokens known m first l h l_is) in
       let c = token.letter in
       let gaps = gapped_from c false (token.others ++ sequence) in
       let (b, p, gap) = first_gap first c token.others within token.occurs.other token.are in

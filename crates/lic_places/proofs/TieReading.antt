@@ -35,16 +35,16 @@ pub record IsNeeded (tokens : List TokenValue) (p r : ℕ) : Type 0 where
   pub no_letter : (d q : ℕ) → d ≢ blank → IsScalar d → Occurs (spelling_of tokens) p (encode_utf8 d) q → ⊥
 
 -- a gap is between two places
-abbrev pub StandsGap : List TokenValue → ℕ → Gap → ℕ → Type 0
-StandsGap tokens p no_gap r = (p ≡ r) × IsShut tokens p
-StandsGap tokens p free r = (p ≡ r) × IsFree tokens p
-StandsGap tokens p needed r = IsNeeded tokens p r
+abbrev pub HasGapAt : List TokenValue → ℕ → Gap → ℕ → Type 0
+HasGapAt tokens p no_gap r = (p ≡ r) × IsShut tokens p
+HasGapAt tokens p free r = (p ≡ r) × IsFree tokens p
+HasGapAt tokens p needed r = IsNeeded tokens p r
 
 -- letters, each with the gap before it, are between two places, and blanks may follow
-abbrev pub StandGapped : List TokenValue → ℕ → List (Gap × ℕ) → ℕ → Type 0
-StandGapped tokens p [] e = (p ≡ e) × OverBlank tokens p p
-StandGapped tokens p (x ∷ gaps) e =
-    (r s : ℕ) × StandsGap tokens p x.0 r × HasLetter tokens r x.1 s × StandGapped tokens s gaps e
+abbrev pub AreGappedAt : List TokenValue → ℕ → List (Gap × ℕ) → ℕ → Type 0
+AreGappedAt tokens p [] e = (p ≡ e) × OverBlank tokens p p
+AreGappedAt tokens p (x ∷ gaps) e =
+    (r s : ℕ) × HasGapAt tokens p x.0 r × HasLetter tokens r x.1 s × AreGappedAt tokens s gaps e
 
 -- ---- reading continues
 
@@ -76,24 +76,24 @@ Reads-order tokens p (c ∷ w) q (r, takes, read) =
     let later = Reads-order tokens r w q read in
     omega arith
 
-StandsGap-order : (tokens : List TokenValue) (p : ℕ) (gap : Gap) (r : ℕ) → StandsGap tokens p gap r → p ≤ r
-StandsGap-order tokens p no_gap r (same, shut) = omega arith
-StandsGap-order tokens p free r (same, is) = omega arith
-StandsGap-order tokens p needed r is = omega (arith, is.next)
+HasGapAt-order : (tokens : List TokenValue) (p : ℕ) (gap : Gap) (r : ℕ) → HasGapAt tokens p gap r → p ≤ r
+HasGapAt-order tokens p no_gap r (same, shut) = omega arith
+HasGapAt-order tokens p free r (same, is) = omega arith
+HasGapAt-order tokens p needed r is = omega (arith, is.next)
 
-StandGapped-order : (tokens : List TokenValue) (p : ℕ) (gaps : List (Gap × ℕ)) (e : ℕ) → StandGapped tokens p gaps e → p ≤ e
-StandGapped-order tokens p [] e (same, stay) = omega arith
-StandGapped-order tokens p (x ∷ gaps) e (r, s, gap, letter, later) =
-    let before = StandsGap-order tokens p x.0 r gap in
+AreGappedAt-order : (tokens : List TokenValue) (p : ℕ) (gaps : List (Gap × ℕ)) (e : ℕ) → AreGappedAt tokens p gaps e → p ≤ e
+AreGappedAt-order tokens p [] e (same, stay) = omega arith
+AreGappedAt-order tokens p (x ∷ gaps) e (r, s, gap, letter, later) =
+    let before = HasGapAt-order tokens p x.0 r gap in
     let over = Occurs-forward (spelling_of tokens) r x.1 s letter.occurs in
-    let farther = StandGapped-order tokens s gaps e later in
+    let farther = AreGappedAt-order tokens s gaps e later in
     omega arith
 
 -- blanks may come after the last letter
-pub StandGapped-end : (tokens : List TokenValue) (p : ℕ) (gaps : List (Gap × ℕ)) (e : ℕ) → StandGapped tokens p gaps e
+pub AreGappedAt-end : (tokens : List TokenValue) (p : ℕ) (gaps : List (Gap × ℕ)) (e : ℕ) → AreGappedAt tokens p gaps e
     → OverBlank tokens e e
-StandGapped-end tokens p [] e (same, stay) = subst (λ x. OverBlank tokens x x) same stay
-StandGapped-end tokens p (x ∷ gaps) e (r, s, gap, letter, later) = StandGapped-end tokens s gaps e later
+AreGappedAt-end tokens p [] e (same, stay) = subst (λ x. OverBlank tokens x x) same stay
+AreGappedAt-end tokens p (x ∷ gaps) e (r, s, gap, letter, later) = AreGappedAt-end tokens s gaps e later
 
 -- a blank that stays does not come right after another
 not_after_over : (tokens : List TokenValue) (p q : ℕ) → OverBlank tokens p q → q ≡ p → IsAfterBlank (spelling_of tokens) p → ⊥
@@ -105,7 +105,7 @@ not_after_stay tokens p stay = not_after_over tokens p p stay refl
 
 -- ---- what spells the letters is read
 
-read_blanks : (tokens : List TokenValue) (p : ℕ) (gap : Gap) (r e n : ℕ) (v : Word) → StandsGap tokens p gap r → Allows gap n
+read_blanks : (tokens : List TokenValue) (p : ℕ) (gap : Gap) (r e n : ℕ) (v : Word) → HasGapAt tokens p gap r → Allows gap n
     → Reads tokens r v e → Reads tokens p (blanks n ++ v) e
 read_blanks tokens p no_gap r e zero v (same, shut) allows read = subst (λ x. Reads tokens x v e) (sym same) read
 read_blanks tokens p no_gap r e (suc n) v (same, shut) allows read = absurd (omega arith)
@@ -122,7 +122,7 @@ read_end : (tokens : List TokenValue) (p e n : ℕ) → p ≡ e → OverBlank to
 read_end tokens p e zero same stay = same
 read_end tokens p e (suc n) same stay = (p, inl (refl, stay), read_end tokens p e n same stay)
 
-pub read_gapped : (tokens : List TokenValue) (p : ℕ) (gaps : List (Gap × ℕ)) (e : ℕ) (w : Word) → StandGapped tokens p gaps e
+pub read_gapped : (tokens : List TokenValue) (p : ℕ) (gaps : List (Gap × ℕ)) (e : ℕ) (w : Word) → AreGappedAt tokens p gaps e
     → SpellsGapped w gaps → Reads tokens p w e
 read_gapped tokens p [] e w (same, stay) (n, is) =
     subst (λ x. Reads tokens p x e) (sym is) (read_end tokens p e n same stay)
@@ -135,7 +135,7 @@ read_gapped tokens p (x ∷ gaps) e w (r, s, gap, letter, later) (n, allows, v, 
 
 -- what is read from further on spells what is left there
 abbrev Spell : List TokenValue → ℕ → Word → Type 0
-Spell tokens e w = (p : ℕ) (gaps : List (Gap × ℕ)) → StandGapped tokens p gaps e → Reads tokens p w e → SpellsGapped w gaps
+Spell tokens e w = (p : ℕ) (gaps : List (Gap × ℕ)) → AreGappedAt tokens p gaps e → Reads tokens p w e → SpellsGapped w gaps
 
 -- one blank more before the letters
 one_more : (c : ℕ) (w : Word) (gap : Gap) (l : ℕ) (gaps : List (Gap × ℕ)) → c ≡ blank → ((n : ℕ) → Allows gap n → Allows gap (suc n))
@@ -164,7 +164,7 @@ module _ (tokens : List TokenValue) (e d : ℕ) (w : Word) (r0 : ℕ) (later : S
       let forward = Occurs-forward (spelling_of tokens) p d r0 occurs in
       absurd (omega arith)
 
-  module _ (c : ℕ) (gaps : List (Gap × ℕ)) (r s : ℕ) (letter : HasLetter tokens r c s) (after : StandGapped tokens s gaps e) where
+  module _ (c : ℕ) (gaps : List (Gap × ℕ)) (r s : ℕ) (letter : HasLetter tokens r c s) (after : AreGappedAt tokens s gaps e) where
     -- the letter is read
     spell_letter : (p : ℕ) (gap : Gap) → p ≡ r → Allows gap 0 → IsScalar d → Occurs (spelling_of tokens) p (encode_utf8 d) r0
         → SpellsGapped (d ∷ w) ((gap, c) ∷ gaps)
@@ -182,7 +182,7 @@ module _ (tokens : List TokenValue) (e d : ℕ) (w : Word) (r0 : ℕ) (later : S
         (later r ((no_gap, c) ∷ gaps) (r, s, (refl, is_needed.shut), letter, after)
         (subst (λ x. Reads tokens x w e) (next ∙ sym is_needed.next) read))
 
-    spell_step : (p : ℕ) (gap : Gap) → StandsGap tokens p gap r → Takes tokens p d r0 → SpellsGapped (d ∷ w) ((gap, c) ∷ gaps)
+    spell_step : (p : ℕ) (gap : Gap) → HasGapAt tokens p gap r → Takes tokens p d r0 → SpellsGapped (d ∷ w) ((gap, c) ∷ gaps)
     spell_step p no_gap (same, shut) (inl (is, leads)) = absurd (shut.nowhere r0 leads)
     spell_step p no_gap (same, shut) (inr (other, scalar, occurs)) = spell_letter p no_gap same refl scalar occurs
     spell_step p free (same, is_free) (inl (is, leads)) =
@@ -193,13 +193,13 @@ module _ (tokens : List TokenValue) (e d : ℕ) (w : Word) (r0 : ℕ) (later : S
     spell_step p needed is_needed (inl (is, leads)) = spell_needed p is_needed is (OverBlank-either tokens p r0 leads)
     spell_step p needed is_needed (inr (other, scalar, occurs)) = absurd (is_needed.no_letter d r0 other scalar occurs)
 
-pub spell_gapped : (tokens : List TokenValue) (e : ℕ) (w : Word) (p : ℕ) (gaps : List (Gap × ℕ)) → StandGapped tokens p gaps e
+pub spell_gapped : (tokens : List TokenValue) (e : ℕ) (w : Word) (p : ℕ) (gaps : List (Gap × ℕ)) → AreGappedAt tokens p gaps e
     → Reads tokens p w e → SpellsGapped w gaps
-spell_gapped tokens e [] p [] stand read = (0, refl)
+spell_gapped tokens e [] p [] gapped read = (0, refl)
 spell_gapped tokens e [] p (x ∷ gaps) (r, s, gap, letter, after) read =
-    let before = StandsGap-order tokens p x.0 r gap in
+    let before = HasGapAt-order tokens p x.0 r gap in
     let over = Occurs-forward (spelling_of tokens) r x.1 s letter.occurs in
-    let farther = StandGapped-order tokens s gaps e after in
+    let farther = AreGappedAt-order tokens s gaps e after in
     absurd (omega arith)
 spell_gapped tokens e (d ∷ w) p [] (same, stay) (r0, takes, read) =
     spell_end tokens e d w r0 (spell_gapped tokens e w) read p same stay takes

@@ -14,9 +14,9 @@ use Rattle.lic_norm.specs.Tokens.{TokenValue}
 use Rattle.lic_norm.specs.Places.{place_start, place_end, texts_of}
 use Rattle.lic_norm.specs.Spans.{IsTokenText}
 use Rattle.lic_places.specs.Places.{AreTexts, HasGap, IsAfterBlank, stays, spelling_of}
-use Rattle.lic_places.proofs.TieReading.{HasLetter, StandsGap, StandGapped, StandGapped-end, not_after_stay}
+use Rattle.lic_places.proofs.TieReading.{HasLetter, HasGapAt, AreGappedAt, AreGappedAt-end, not_after_stay}
 use Rattle.lic_places.proofs.TiePlaces.{drop-on, length-letter, not_after, has_letter, is_free_before, is_needed_before}
-use Rattle.lic_places.proofs.TieLetters.{AreWordsApart, gapped_from-token, letters_stand}
+use Rattle.lic_places.proofs.TieLetters.{AreWordsApart, gapped_from-token, letters_are_at}
 use Rattle.lic_places.proofs.TieEnds.{text_at, blank_after, place_end-start, place_start-next, bytes_from_start, bytes_from_end, text-utf8, text-token, no_end_inside}
 
 -- ---- the letters of a text
@@ -63,27 +63,27 @@ text_written text cs c utf8 is = sym (encodes-chars text utf8) ∙ ap encode_utf
 
 -- a sequence is where the gap before its first token does, and the letters of the token and of the others
 sequence_occurs : (tokens : List TokenValue) (p e last : ℕ) (t cs : List ℕ) (ts : List (List ℕ)) (c : ℕ) (b : Bool) (r s : ℕ) → t ≡ c ∷ cs
-    → is_word last && is_word c ≡ b → StandsGap tokens p (gap_of true b) r → HasLetter tokens r c s
-    → StandGapped tokens s (gapped_from c false (cs ++ sequence_of ts)) e → StandGapped tokens p (gapped_from last false (sequence_of (t ∷ ts))) e
+    → is_word last && is_word c ≡ b → HasGapAt tokens p (gap_of true b) r → HasLetter tokens r c s
+    → AreGappedAt tokens s (gapped_from c false (cs ++ sequence_of ts)) e → AreGappedAt tokens p (gapped_from last false (sequence_of (t ∷ ts))) e
 sequence_occurs tokens p e last t cs ts c b r s are words gap letter later =
-    subst (λ gaps. StandGapped tokens p gaps e) (sym (gapped_from-token last t cs ts c b are letter.other words)) (r, s, gap, letter, later)
+    subst (λ gaps. AreGappedAt tokens p gaps e) (sym (gapped_from-token last t cs ts c b are letter.other words)) (r, s, gap, letter, later)
 
 -- ---- one token
 
 module _ (tokens : List TokenValue) (known : AreTexts tokens) where
   -- the first letter of a token, and its other letters with a sequence after them
-  pub record TokenStands (i : ℕ) (sequence : List ℕ) (e : ℕ) : Type 0 where
+  pub record TokenIsAt (i : ℕ) (sequence : List ℕ) (e : ℕ) : Type 0 where
     pub letter : ℕ
     pub others : List ℕ
     pub next : ℕ
     pub are : chars (text_at tokens i) ≡ letter ∷ others
     pub occurs : HasLetter tokens (place_start tokens i) letter next
-    pub later : StandGapped tokens next (gapped_from letter false (others ++ sequence)) e
+    pub later : AreGappedAt tokens next (gapped_from letter false (others ++ sequence)) e
 
   pub token_occurs : (i : ℕ) → i < length tokens → (sequence : List ℕ) (e : ℕ)
       → ((last : ℕ) → is_word last ≡ ends_in_word (text_at tokens i) → (IsAfterBlank (spelling_of tokens) (place_end tokens i) → ⊥)
-      → StandGapped tokens (place_end tokens i) (gapped_from last false sequence) e)
-      → TokenStands i sequence e
+      → AreGappedAt tokens (place_end tokens i) (gapped_from last false sequence) e)
+      → TokenIsAt i sequence e
   token_occurs i h sequence e go_on =
       let text = text_at tokens i in
       let utf8 = text-utf8 tokens i known h in
@@ -106,7 +106,7 @@ module _ (tokens : List TokenValue) (known : AreTexts tokens) where
         next = next;
         are = are;
         occurs = has;
-        later = letters_stand tokens (chars text) (words_apart text utf8 token) start (place_end tokens i)
+        later = letters_are_at tokens (chars text) (words_apart text utf8 token) start (place_end tokens i)
             (λ p after before. no_end_inside tokens i p h after before) around.0 sequence e go_on cs (c ∷ []) c next (record {
               parts = are;
               last_is = refl;
@@ -127,25 +127,25 @@ module _ (tokens : List TokenValue) (known : AreTexts tokens) where
   not_after_end i h =
       let occurs = token_occurs i h [] (place_end tokens i) (λ last is solid. (refl, stays solid (end_gap i h))) in
       not_after_stay tokens (place_end tokens i)
-      (StandGapped-end tokens occurs.next (gapped_from occurs.letter false (occurs.others ++ [])) (place_end tokens i) occurs.later)
+      (AreGappedAt-end tokens occurs.next (gapped_from occurs.letter false (occurs.others ++ [])) (place_end tokens i) occurs.later)
 
   -- ---- the gap between two tokens
 
   gap_by : (i c : ℕ) (rest : List ℕ) → suc i < length tokens → c ≢ blank → (b : Bool)
       → drop (place_end tokens i) (spelling_of tokens) ≡ blank_if b ++ (encode_utf8 c ++ rest)
       → place_start tokens (suc i) ≡ place_end tokens i + length (blank_if b)
-      → StandsGap tokens (place_end tokens i) (gap_of true b) (place_start tokens (suc i))
+      → HasGapAt tokens (place_end tokens i) (gap_of true b) (place_start tokens (suc i))
   gap_by i c rest h other true bytes starts =
       let next : suc (place_end tokens i) ≡ place_start tokens (suc i) = omega arith in
       let solid = not_after_end i (omega arith) in
-      subst (λ r. StandsGap tokens (place_end tokens i) needed r) next (is_needed_before tokens rest (place_end tokens i) c other bytes solid)
+      subst (λ r. HasGapAt tokens (place_end tokens i) needed r) next (is_needed_before tokens rest (place_end tokens i) c other bytes solid)
   gap_by i c rest h other false bytes starts =
       let next : place_end tokens i ≡ place_start tokens (suc i) = omega arith in
       let within : i < length tokens = omega arith in
       (next, is_free_before tokens rest (place_end tokens i) c other bytes (not_after_end i within) (end_gap i within))
 
   pub gap_before : (i c : ℕ) (cs : List ℕ) → suc i < length tokens → chars (text_at tokens (suc i)) ≡ c ∷ cs
-      → StandsGap tokens (place_end tokens i) (gap_of true (is_parted (text_at tokens i) (text_at tokens (suc i)))) (place_start tokens (suc i))
+      → HasGapAt tokens (place_end tokens i) (gap_of true (is_parted (text_at tokens i) (text_at tokens (suc i)))) (place_start tokens (suc i))
   gap_before i c cs h are =
       let text = text_at tokens (suc i) in
       let utf8 = text-utf8 tokens (suc i) known h in
@@ -170,21 +170,21 @@ module _ (tokens : List TokenValue) (known : AreTexts tokens) where
       (drop-cons (texts_of tokens) (suc i) [] (omega (arith, length-map tokens (λ (t : TokenValue). t.text))))
 
   -- the tokens after one of them
-  pub tokens_stand : (m i last : ℕ) → i + m < length tokens → is_word last ≡ ends_in_word (text_at tokens i)
-      → StandGapped tokens (place_end tokens i) (gapped_from last false (sequence_of (letters_after m i))) (place_end tokens (i + m))
-  tokens_stand zero i last h last_is =
+  pub tokens_are_at : (m i last : ℕ) → i + m < length tokens → is_word last ≡ ends_in_word (text_at tokens i)
+      → AreGappedAt tokens (place_end tokens i) (gapped_from last false (sequence_of (letters_after m i))) (place_end tokens (i + m))
+  tokens_are_at zero i last h last_is =
       let within : i < length tokens = omega arith in
       (ap (place_end tokens) (sym (add-zero i)), stays (not_after_end i within) (end_gap i within))
-  tokens_stand (suc m) i last h last_is =
+  tokens_are_at (suc m) i last h last_is =
       let within : suc i < length tokens = omega arith in
       let sequence = sequence_of (letters_after m (suc i)) in
       let later_end : suc i + m ≡ i + suc m = omega arith in
       let token = token_occurs (suc i) within sequence (place_end tokens (i + suc m))
-      (λ l l_is solid. subst (λ n. StandGapped tokens (place_end tokens (suc i)) (gapped_from l false sequence) (place_end tokens n)) later_end
-      (tokens_stand m (suc i) l (omega arith) l_is)) in
+      (λ l l_is solid. subst (λ n. AreGappedAt tokens (place_end tokens (suc i)) (gapped_from l false sequence) (place_end tokens n)) later_end
+      (tokens_are_at m (suc i) l (omega arith) l_is)) in
       let words : is_word last && is_word token.letter ≡ is_parted (text_at tokens i) (text_at tokens (suc i)) =
       ap₂ (λ a b. a && b) last_is (sym (ap first_is_word token.are)) in
-      subst (λ ts. StandGapped tokens (place_end tokens i) (gapped_from last false (sequence_of ts)) (place_end tokens (i + suc m)))
+      subst (λ ts. AreGappedAt tokens (place_end tokens i) (gapped_from last false (sequence_of ts)) (place_end tokens (i + suc m)))
       (sym (letters_after-more m i within))
       (sequence_occurs tokens (place_end tokens i) (place_end tokens (i + suc m)) last (chars (text_at tokens (suc i))) token.others
       (letters_after m (suc i)) token.letter (is_parted (text_at tokens i) (text_at tokens (suc i))) (place_start tokens (suc i))

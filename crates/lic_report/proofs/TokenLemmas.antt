@@ -28,7 +28,7 @@ module _ (tokens : List TokenValue) (i : ℕ) (d : TokenValue) (within : i < len
       place_end-last tokens (i + (length tokens - (i + 1))) (omega (arith, within)) in
       omega (arith, e, order, last)
 
-  -- and has so many bytes
+  -- and has the bytes of its text
   pub text-long : place_end tokens i ≡ place_start tokens i + length (get_or tokens i d).text
   text-long =
       place_end-start tokens i within

@@ -7,7 +7,7 @@ use lib.Lanes.{put_chunk, zip2, chunk}
 
 pub here : (f : ℕ → ℕ → ℕ) (xs us vs : List ℕ) (at k : ℕ) → length us ≡ 4 → length vs ≡ 4 → at + 4 ≤ length xs → at ≤ k → k < at + 4
     → get_or (put_chunk at xs (zip2 f us vs)) k 0 ≡ f (get_or us (k - at) 0) (get_or vs (k - at) 0)
-here f xs us vs at k lu lv room low high =
+here f xs us vs at k lu lv fits low high =
     let len : length (zip2 f us vs) ≡ 4 = length-zip2 f us vs (lu ∙ sym lv) ∙ lu in
     let place : at + (k - at) ≡ k = omega arith in
     let in_block : k - at < 4 = omega arith in
@@ -44,10 +44,10 @@ moved us vs = zip2 (λ a b. bit_or a b) (zip2 (λ a s. a * 2 ^ s % 2 ^ 64) us (r
 pub moved_here : (xs : List ℕ) (at k : ℕ) → 1 ≤ at → at + 4 ≤ length xs → at ≤ k → k < at + 4
     → get_or (put_chunk at xs (moved (chunk at 4 xs) (chunk (at - 1) 4 xs))) k 0
     ≡ bit_or (get_or xs k 0 * 2 ^ 1 % 2 ^ 64) (get_or xs (k - 1) 0 / 2 ^ 63)
-moved_here xs at k one room low high =
+moved_here xs at k one fits low high =
     let us : List ℕ = chunk at 4 xs in
     let vs : List ℕ = chunk (at - 1) 4 xs in
-    let lu : length us ≡ 4 = length-chunk at 4 xs room in
+    let lu : length us ≡ 4 = length-chunk at 4 xs fits in
     let lv : length vs ≡ 4 = length-chunk (at - 1) 4 xs (omega arith) in
     let shl : ℕ → ℕ → ℕ = λ a s. a * 2 ^ s % 2 ^ 64 in
     let shr : ℕ → ℕ → ℕ = λ a s. a / 2 ^ s in
@@ -66,15 +66,15 @@ moved_here xs at k one room low high =
     get_or-zip2 shr vs (replicate 4 63) (k - at) 0 0 0 (omega arith) j
     ∙ ap (λ s. shr (get_or vs (k - at) 0) s) (get_or-replicate 4 (k - at) 63 0 j)
     ∙ ap (λ x. shr x 63) (of_chunk at k (at - 1) xs low high ∙ ap (λ n. get_or xs n 0) placed) in
-    here bit_or xs up down at k lup ldown room low high
+    here bit_or xs up down at k lup ldown fits low high
     ∙ ap (λ x. bit_or x (get_or down (k - at) 0)) a ∙ ap (λ y. bit_or (get_or xs k 0 * 2 ^ 1 % 2 ^ 64) y) b
 
 pub moved_above : (xs : List ℕ) (at k : ℕ) → 1 ≤ at → at + 4 ≤ length xs → at + 4 ≤ k
     → get_or (put_chunk at xs (moved (chunk at 4 xs) (chunk (at - 1) 4 xs))) k 0 ≡ get_or xs k 0
-moved_above xs at k one room high =
+moved_above xs at k one fits high =
     let us : List ℕ = chunk at 4 xs in
     let vs : List ℕ = chunk (at - 1) 4 xs in
-    let lu : length us ≡ 4 = length-chunk at 4 xs room in
+    let lu : length us ≡ 4 = length-chunk at 4 xs fits in
     let lv : length vs ≡ 4 = length-chunk (at - 1) 4 xs (omega arith) in
     let shl : ℕ → ℕ → ℕ = λ a s. a * 2 ^ s % 2 ^ 64 in
     let shr : ℕ → ℕ → ℕ = λ a s. a / 2 ^ s in

@@ -15,7 +15,7 @@ bit_of xs ys first b low e =
     let bit : (b - first * 64) % 64 ≡ b % 64 = omega arith in
     rw (word, bit) (ap (λ w. bit_at w (b % 64) == 1) e)
 
-module _ (row : List ℕ) (first last : ℕ) (order : first ≤ last) (room : last < length row) where
+module _ (row : List ℕ) (first last : ℕ) (order : first ≤ last) (fits : last < length row) where
   pub has_part : (b : ℕ) → first * 64 ≤ b → b < (last + 1) * 64 → has (slice_range row first (last + 1)) (b - first * 64) ≡ has row b
   has_part b low high =
       let place : first + (b / 64 - first) ≡ b / 64 = omega arith in

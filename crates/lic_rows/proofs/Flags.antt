@@ -28,7 +28,7 @@ flag-is n row rest k = elim (cases_lt k n) [
   | inr past ↦ get_or_past (flags n row) k false (omega (arith, length-flags n row)) ∙ sym (rest k past)
 ]
 
-module _ (n : ℕ) (old new : List ℕ) (rest : (k : ℕ) → n ≤ k → has old k ≡ false) (from to : ℕ) (room : to ≤ n)
+module _ (n : ℕ) (old new : List ℕ) (rest : (k : ℕ) → n ≤ k → has old k ≡ false) (from to : ℕ) (fits : to ≤ n)
     (kept : IsKeptOutside from to (has old) (has new)) where
   pub rest_kept : (k : ℕ) → n ≤ k → has new k ≡ false
   rest_kept k past = kept.past k (omega arith) ∙ rest k past
@@ -66,7 +66,7 @@ flags_set n old new at flag inside here other =
 
 -- ---- what a search answers
 
-module _ (n : ℕ) (row : List ℕ) (from to : ℕ) (room : to ≤ n) where
+module _ (n : ℕ) (row : List ℕ) (from to : ℕ) (fits : to ≤ n) where
   pub found_flag : (found : Option ℕ) → IfSome found (λ at. (from ≤ at) × (at < to) × (has row at ≡ true) × ((b : ℕ) → from ≤ b → b < at → has row b ≡ false))
       → IfSome found (λ at. (from ≤ at) × (at < to) × (flag_at (flags n row) at ≡ true) × ((k : ℕ) → from ≤ k → k < at → flag_at (flags n row) k ≡ false))
   found_flag None h = h

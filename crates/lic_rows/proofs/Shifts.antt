@@ -126,7 +126,7 @@ not_cut row limit past b = elim (cases_lt b limit) [
 pub moved_up : (old mid new : List ℕ) (limit : ℕ) → limit ≤ 64 * length old
     → ((b : ℕ) → suc b < 64 * length old → has mid (suc b) ≡ has old b) → ((b : ℕ) → has new b ≡ (has mid b && nat_lt b limit))
     → (b : ℕ) → has new (suc b) ≡ (has old b && nat_lt (suc b) limit)
-moved_up old mid new limit room up cut b = elim (cases_lt (suc b) limit) [
+moved_up old mid new limit bounded up cut b = elim (cases_lt (suc b) limit) [
   | inl low ↦ cut (suc b) ∙ ap (λ x. x && nat_lt (suc b) limit) (up b (omega arith))
   | inr high ↦
       let off : nat_lt (suc b) limit ≡ false = le-ltb (suc b) limit high in

@@ -13,7 +13,7 @@ use std::marker::Model;
 /// last, in bits. Only `new` takes memory.
 #[derive(Drop, Debug)]
 pub struct Bits {
-    // one word more than whole words have room for, so that each place up to the end has its word
+    // one word more than the whole words, so that each place up to the end has its word
     words: Vec<u64>,
     len: usize,
 }

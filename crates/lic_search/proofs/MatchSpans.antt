@@ -13,7 +13,7 @@ use Rattle.lic_spans.specs.declared.span.PlaceSpan.{PlaceSpan}
 use Rattle.lic_view.specs.PlaceSets.{ArePlaced, IsLetterPlace, IsPlaceOf, LiesBefore, Reaches}
 use Rattle.lic_search.specs.Beginnings.{BeginsIn, LiesWithin}
 use Rattle.lic_view.specs.Views.{IsFirstFrom}
-use Rattle.lic_view.proofs.Laws.{no_blank-end, no_blank-start, tokens_stand-first, tokens_stand-order}
+use Rattle.lic_view.proofs.Laws.{no_blank-end, no_blank-start, tokens_are_at-first, tokens_are_at-order}
 use Rattle.lic_view.proofs.ViewBlanks.{over_blank-cases}
 use Rattle.lic_view.proofs.ViewPlaces.{ends-order, starts-order}
 use Rattle.lic_view.proofs.ViewSpans.{Holds-one, last-one}
@@ -195,14 +195,14 @@ end-begins tokens span first texts placed kind begins =
     let held = placed.front span.kind given.number span.last (Holds-one span given.number given.from given.to) in
     let front : LiesBefore tokens End given.number span.last = subst (λ k. LiesBefore tokens k given.number span.last) kind held in
     let at : IsPlaceOf tokens End given.number begins.place = subst (λ k. IsPlaceOf tokens k given.number begins.place) kind given.place in
-    let order : place_start tokens first < place_end tokens first = tokens_stand-order tokens first texts (omega (arith, begins.order)) in
+    let order : place_start tokens first < place_end tokens first = tokens_are_at-order tokens first texts (omega (arith, begins.order)) in
     let ends : place_end tokens first ≤ place_end tokens span.last = ends-order tokens first span.last texts begins.order last in
     elim begins.begins [ inl here ↦ absurd (omega (arith, here, at, front)) | inr after ↦ absurd (omega (arith, after.0, at, front)) ]
 
 -- some token begins up to a place
 pub some-first : (tokens : List TokenValue) (place n : ℕ) → IsFirstFrom (place_start tokens) (length tokens) (place + 1) n → 0 < length tokens → 1 ≤ n
 some-first tokens place n first within =
-    before-first tokens place n 0 first within (omega (arith, tokens_stand-first tokens within))
+    before-first tokens place n 0 first within (omega (arith, tokens_are_at-first tokens within))
 
 -- the last token that begins up to a place
 pub greatest-first : (tokens : List TokenValue) (span : PlaceSpan) (place n : ℕ) → AreTexts tokens → ArePlaced tokens (span ∷ [])

@@ -11,7 +11,7 @@ use Rattle.lic_places.specs.Places.{AreTexts, HasGap, IsAfterBlank, OverBlank, O
 use Rattle.lic_places.specs.Places.OverBlank.{over, stays}
 use Rattle.lic_places.specs.Reads.{BeginsAt}
 use Rattle.lic_view.specs.PlaceSets.{IsLetterPlace}
-use Rattle.lic_view.proofs.Laws.{no_blank-end, no_blank-start, tokens_stand-first, tokens_stand-next, tokens_stand-order, tokens_stand-text}
+use Rattle.lic_view.proofs.Laws.{no_blank-end, no_blank-start, tokens_are_at-first, tokens_are_at-next, tokens_are_at-order, tokens_are_at-text}
 use Rattle.lic_view.proofs.ViewPlaces.{end-within, starts-after}
 
 -- the first byte of a text that occurs somewhere begins a letter
@@ -30,7 +30,7 @@ start-letter tokens i texts within =
     let utf8 : IsUtf8 (get_or (texts_of tokens) i []) = All-get_or IsUtf8 (texts_of tokens) i [] inside (All-map IsUtf8 text_of tokens texts.utf8) in
     record {
       whole = text-boundary (spelling_of tokens) (get_or (texts_of tokens) i []) (place_start tokens i) (place_end tokens i) utf8
-          (tokens_stand-text tokens i within) (tokens_stand-order tokens i texts within) (end-within tokens i within);
+          (tokens_are_at-text tokens i within) (tokens_are_at-order tokens i texts within) (end-within tokens i within);
       letter = λ blank. true≢false (sym (eq-eqb _ _ blank) ∙ no_blank-start tokens i texts within);
     }
 
@@ -49,11 +49,11 @@ past-blank tokens p past =
 pub blank-before : (tokens : List TokenValue) (first : ℕ) → AreTexts tokens → first < length tokens
     → (p : ℕ) × OverBlank tokens p (place_start tokens first) × BeginsAt tokens first p
 blank-before tokens zero texts within =
-    let at : place_start tokens 0 ≡ 0 = tokens_stand-first tokens within in
+    let at : place_start tokens 0 ≡ 0 = tokens_are_at-first tokens within in
     let none : ¬ IsAfterBlank (spelling_of tokens) (place_start tokens 0) = λ past. absurd (omega (arith, past.1, at)) in
     (place_start tokens 0, stays none (inl at), inl refl)
 blank-before tokens (suc k) texts within =
-    elim (tokens_stand-next tokens k texts within) [
+    elim (tokens_are_at-next tokens k texts within) [
       | inl same ↦
           let none = subst (λ p. ¬ IsAfterBlank (spelling_of tokens) p) (sym same) (no_blank-end tokens k texts (omega arith)) in
           let gap : HasGap tokens (place_start tokens (suc k)) = inr (inr (record { number = k; within = omega arith; ends = same })) in

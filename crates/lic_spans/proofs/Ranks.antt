@@ -29,6 +29,6 @@ itself Place = refl
 itself Letters = refl
 itself Blanks = refl
 
--- kinds that the code's test tells apart are not the same
+-- kinds that the code's test finds different are not the same
 pub same_kind : (j k : SpanKind) → sameb the_type j k ≡ false → j ≡ k → ⊥
 same_kind j k other e = false≢true (sym other ∙ subst (λ x. sameb the_type j x ≡ true) e (itself j))

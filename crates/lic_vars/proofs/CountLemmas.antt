@@ -13,7 +13,7 @@ use Rattle.lic_vars.specs.Counts.{begins_character}
 use Rattle.lic_vars.proofs.CountBytes.{as_count, count-encode, slice-split}
 use Rattle.lic_vars.specs.Cuts.{letter_place}
 use Rattle.lic_vars.specs.Shortest.{begins_letter, letters_between}
-use Rattle.lic_vars.proofs.StepOverLemmas.{Hops, LetterAt, behind, cut_at, hop-forward, hops-forward}
+use Rattle.lic_vars.proofs.StepOverLemmas.{Hops, LetterAt, past, cut_at, hop-forward, hops-forward}
 
 count-cons : (p : ℕ → Bool) (b : ℕ) (bs : List ℕ) → count_by p (b ∷ bs) ≡ as_count (p b) + count_by p bs
 count-cons p b bs = sum_by-cons (λ x. cond (p x) 1 0) b bs
@@ -71,16 +71,16 @@ module _ (tokens : List TokenValue) (are : AreTexts tokens) where
       (over-none p (letter_place tokens (cut_at p true)) leads, (OverBlank-order tokens p (letter_place tokens (cut_at p true)) leads).0)
   before-letter p false c at = (between-none bytes p, omega arith)
 
-  hop-count : (p : ℕ) (b : Bool) (c : ℕ) → LetterAt tokens are p b c → letters_between bytes p (behind tokens are p b c) ≡ 1
+  hop-count : (p : ℕ) (b : Bool) (c : ℕ) → LetterAt tokens are p b c → letters_between bytes p (past tokens are p b c) ≡ 1
   hop-count p b c at =
       let place = letter_place tokens (cut_at p b) in
       let front = before-letter p b c at in
-      let letter : letters_between bytes place (behind tokens are p b c) ≡ 1 = ap (count_by begins_letter) at.occurs.1 ∙ count-letter c at.other in
-      omega (arith, between-split bytes p place (behind tokens are p b c) front.1 (omega arith), front.0, letter)
+      let letter : letters_between bytes place (past tokens are p b c) ≡ 1 = ap (count_by begins_letter) at.occurs.1 ∙ count-letter c at.other in
+      omega (arith, between-split bytes p place (past tokens are p b c) front.1 (omega arith), front.0, letter)
 
   pub hops-count : (p n q : ℕ) → Hops tokens are p n q → letters_between bytes p q ≡ n
   hops-count p zero q same = subst (λ x. letters_between bytes p x ≡ 0) same (between-none bytes p)
   hops-count p (suc n) q (b, c, at, later) =
-      let next = behind tokens are p b c in
+      let next = past tokens are p b c in
       let to : p ≤ next = omega (arith, hop-forward tokens are p b c at) in
       omega (arith, between-split bytes p next q to (hops-forward tokens are next n q later), hop-count p b c at, hops-count next n q later)

@@ -75,7 +75,7 @@ module _ (tokens : List TokenValue) (steps : List Step) where
   }
 
   pub sets-let_go : (sets : List (Option Spans)) (j : ℕ) → AreSuffixSets tokens steps sets → j < length sets → 0 < j → AreSuffixSets tokens steps (set sets j absent)
-  sets-let_go sets j sets_are within behind = record {
+  sets-let_go sets j sets_are within past = record {
     are = λ k w is. elim (IsSet-set_back sets k j absent w within is) [
       | inl both ↦ let gone = both.1 in let none : ⊥ = cc in absurd none
       | inr old ↦ sets_are.are k w old

@@ -26,8 +26,8 @@ module _ (tokens : List TokenValue) (are : AreTexts tokens) where
   -- where a blank can be read from, one more can stay
   pub open-by : (p q : ℕ) → OverBlank tokens p q → OverBlank tokens p p
   open-by p _ (over is) =
-      stays (λ behind. let none = blank-alone tokens behind.0 are behind.2 in
-      true≢false (sym is ∙ ap (is_blank_at (spelling_of tokens)) behind.1 ∙ none)) (inr (inl is))
+      stays (λ past. let none = blank-alone tokens past.0 are past.2 in
+      true≢false (sym is ∙ ap (is_blank_at (spelling_of tokens)) past.1 ∙ none)) (inr (inl is))
   open-by p _ (stays free gap) = stays free gap
 
   over-of : (p q : ℕ) → Takes tokens p blank q → OverBlank tokens p q
@@ -58,8 +58,8 @@ module _ (tokens : List TokenValue) (are : AreTexts tokens) where
     pub occurs : Occurs (spelling_of tokens) (letter_place tokens (cut_at p b)) (encode_utf8 c)
         (letter_place tokens (cut_at p b) + length (encode_utf8 c))
 
-  abbrev pub behind : ℕ → Bool → ℕ → ℕ
-  behind p b c = letter_place tokens (cut_at p b) + length (encode_utf8 c)
+  abbrev pub past : ℕ → Bool → ℕ → ℕ
+  past p b c = letter_place tokens (cut_at p b) + length (encode_utf8 c)
 
   no_blank : (p c q : ℕ) → ¬ (c ≡ blank) → Occurs (spelling_of tokens) p (encode_utf8 c) q → is_blank_at (spelling_of tokens) p ≡ false
   no_blank p c q other occurs =
@@ -78,9 +78,9 @@ module _ (tokens : List TokenValue) (are : AreTexts tokens) where
   letter-stays p c e w other (inl is) = absurd (other is.0)
   letter-stays p c e w other (inr is) = (is.1, is.2)
 
-  letter-behind : (p c r q e : ℕ) (w : Word) → ¬ (c ≡ blank) → OverBlank tokens p r → Takes tokens r c q → Reads tokens q w e
-      → LetterAt p true c × Reads tokens (behind p true c) w e
-  letter-behind p c _ q e w other (over is) takes reads =
+  letter-past : (p c r q e : ℕ) (w : Word) → ¬ (c ≡ blank) → OverBlank tokens p r → Takes tokens r c q → Reads tokens q w e
+      → LetterAt p true c × Reads tokens (past p true c) w e
+  letter-past p c _ q e w other (over is) takes reads =
       let at = letter-stays (suc p) c q w other takes in
       let here = place-over p is in
       let end : q ≡ suc p + length (encode_utf8 c) = at.1.0 in (
@@ -93,7 +93,7 @@ module _ (tokens : List TokenValue) (are : AreTexts tokens) where
         },
         subst (λ x. Reads tokens x w e) (end ∙ ap (λ x. x + length (encode_utf8 c)) (sym here)) reads,
       )
-  letter-behind p c _ q e w other (stays free gap) takes reads =
+  letter-past p c _ q e w other (stays free gap) takes reads =
       let at = letter-stays p c q w other takes in
       let here = place-stays p (no_blank p c q other at.1) in
       let end : q ≡ p + length (encode_utf8 c) = at.1.0 in (
@@ -108,9 +108,9 @@ module _ (tokens : List TokenValue) (are : AreTexts tokens) where
       )
 
   pub letter-read : (p : ℕ) (b : Bool) (c : ℕ) (w : Word) (e : ℕ) → ¬ (c ≡ blank) → Reads tokens p (lead b (c ∷ w)) e
-      → LetterAt p b c × Reads tokens (behind p b c) w e
+      → LetterAt p b c × Reads tokens (past p b c) w e
   letter-read p true c w e other reads =
-      letter-behind p c reads.0 reads.2.0 e w other (over-of p reads.0 reads.1) reads.2.1 reads.2.2
+      letter-past p c reads.0 reads.2.0 e w other (over-of p reads.0 reads.1) reads.2.1 reads.2.2
   letter-read p false c w e other reads =
       let at = letter-stays p c reads.0 w other reads.1 in
       let end : reads.0 ≡ p + length (encode_utf8 c) = at.1.0 in (
@@ -118,62 +118,62 @@ module _ (tokens : List TokenValue) (are : AreTexts tokens) where
         subst (λ x. Reads tokens x w e) end reads.2,
       )
 
-  pub read-letter : (p : ℕ) (b : Bool) (c : ℕ) (w : Word) (e : ℕ) → LetterAt p b c → Reads tokens (behind p b c) w e → Reads tokens p (lead b (c ∷ w)) e
+  pub read-letter : (p : ℕ) (b : Bool) (c : ℕ) (w : Word) (e : ℕ) → LetterAt p b c → Reads tokens (past p b c) w e → Reads tokens p (lead b (c ∷ w)) e
   read-letter p true c w e at reads =
-      (letter_place tokens (cut_at p true), inl (refl, at.leads refl), (behind p true c, inr (at.other, at.scalar, at.occurs), reads))
-  read-letter p false c w e at reads = (behind p false c, inr (at.other, at.scalar, at.occurs), reads)
+      (letter_place tokens (cut_at p true), inl (refl, at.leads refl), (past p true c, inr (at.other, at.scalar, at.occurs), reads))
+  read-letter p false c w e at reads = (past p false c, inr (at.other, at.scalar, at.occurs), reads)
 
   -- ---- letters one after another
 
   -- a number of letters are read up to a place, with blanks between them or none
   abbrev pub Hops : ℕ → ℕ → ℕ → Type 0
   Hops p zero q = p ≡ q
-  Hops p (suc n) q = (b : Bool) × (c : ℕ) × LetterAt p b c × Hops (behind p b c) n q
+  Hops p (suc n) q = (b : Bool) × (c : ℕ) × LetterAt p b c × Hops (past p b c) n q
 
   place-same : (p : ℕ) (b d : Bool) (c f : ℕ) → LetterAt p b c → LetterAt p d f → letter_place tokens (cut_at p b) ≡ letter_place tokens (cut_at p d)
   place-same p true true c f one two = refl
   place-same p false false c f one two = refl
-  place-same p true false c f one two = place-stays p (no_blank p f (behind p false f) two.other two.occurs)
-  place-same p false true c f one two = sym (place-stays p (no_blank p c (behind p false c) one.other one.occurs))
+  place-same p true false c f one two = place-stays p (no_blank p f (past p false f) two.other two.occurs)
+  place-same p false true c f one two = sym (place-stays p (no_blank p c (past p false c) one.other one.occurs))
 
-  hop-same : (p : ℕ) (b d : Bool) (c f : ℕ) → LetterAt p b c → LetterAt p d f → behind p b c ≡ behind p d f
+  hop-same : (p : ℕ) (b d : Bool) (c f : ℕ) → LetterAt p b c → LetterAt p d f → past p b c ≡ past p d f
   hop-same p b d c f one two =
       let bytes = spelling_of tokens in
       let here = place-same p b d c f one two in
-      let follows = occurs-follows bytes (letter_place tokens (cut_at p b)) (encode_utf8 c) (behind p b c) one.occurs in
-      let others = occurs-follows bytes (letter_place tokens (cut_at p d)) (encode_utf8 f) (behind p d f) two.occurs in
-      let same = encode_same c f (drop (behind p b c) bytes) (drop (behind p d f) bytes)
+      let follows = occurs-follows bytes (letter_place tokens (cut_at p b)) (encode_utf8 c) (past p b c) one.occurs in
+      let others = occurs-follows bytes (letter_place tokens (cut_at p d)) (encode_utf8 f) (past p d f) two.occurs in
+      let same = encode_same c f (drop (past p b c) bytes) (drop (past p d f) bytes)
       (sym follows ∙ ap (λ x. drop x bytes) here ∙ others) in
       ap₂ (λ x y. x + length (encode_utf8 y)) here same.0
 
-  pub hop-forward : (p : ℕ) (b : Bool) (c : ℕ) → LetterAt p b c → p < behind p b c
+  pub hop-forward : (p : ℕ) (b : Bool) (c : ℕ) → LetterAt p b c → p < past p b c
   hop-forward p true c at = omega (arith, length-letter c, (OverBlank-order tokens p (letter_place tokens (cut_at p true)) (at.leads refl)).0)
   hop-forward p false c at = omega (arith, length-letter c)
 
   pub hops-forward : (p n q : ℕ) → Hops p n q → p ≤ q
   hops-forward p zero q same = omega arith
-  hops-forward p (suc n) q (b, c, at, later) = omega (arith, hop-forward p b c at, hops-forward (behind p b c) n q later)
+  hops-forward p (suc n) q (b, c, at, later) = omega (arith, hop-forward p b c at, hops-forward (past p b c) n q later)
 
   pub hops-same : (p n q r : ℕ) → Hops p n q → Hops p n r → q ≡ r
   hops-same p zero q r one two = sym one ∙ two
   hops-same p (suc n) q r (b, c, at, later) (d, f, there, others) =
-      hops-same (behind p b c) n q r later (subst (λ x. Hops x n r) (sym (hop-same p b d c f at there)) others)
+      hops-same (past p b c) n q r later (subst (λ x. Hops x n r) (sym (hop-same p b d c f at there)) others)
 
   pub hops-more : (p n m q r : ℕ) → n < m → Hops p n q → Hops p m r → q < r
   hops-more p n zero q r few one two = absurd (omega arith)
   hops-more p zero (suc m) q r few one (d, f, there, others) =
-      omega (arith, hop-forward p d f there, hops-forward (behind p d f) m r others)
+      omega (arith, hop-forward p d f there, hops-forward (past p d f) m r others)
   hops-more p (suc n) (suc m) q r few (b, c, at, later) (d, f, there, others) =
-      hops-more (behind p b c) n m q r (omega arith) later (subst (λ x. Hops x m r) (sym (hop-same p b d c f at there)) others)
+      hops-more (past p b c) n m q r (omega arith) later (subst (λ x. Hops x m r) (sym (hop-same p b d c f at there)) others)
 
   -- no blank comes before the place where a letter ends
   pub hops-solid : (p n q : ℕ) → Hops p (suc n) q → IsAfterBlank (spelling_of tokens) q → ⊥
   hops-solid p zero q (b, c, at, same) blank_before =
       let bytes = spelling_of tokens in
-      not_after bytes (drop (behind p b c) bytes) (letter_place tokens (cut_at p b)) c at.other
-      (occurs-follows bytes (letter_place tokens (cut_at p b)) (encode_utf8 c) (behind p b c) at.occurs)
+      not_after bytes (drop (past p b c) bytes) (letter_place tokens (cut_at p b)) c at.other
+      (occurs-follows bytes (letter_place tokens (cut_at p b)) (encode_utf8 c) (past p b c) at.occurs)
       (subst (IsAfterBlank bytes) (sym same) blank_before)
-  hops-solid p (suc n) q (b, c, at, later) blank_before = hops-solid (behind p b c) n q later blank_before
+  hops-solid p (suc n) q (b, c, at, later) blank_before = hops-solid (past p b c) n q later blank_before
 
   -- ---- tidy words
 
@@ -196,7 +196,7 @@ module _ (tokens : List TokenValue) (are : AreTexts tokens) where
   reads-hops (c ∷ w) p b q (inr is) reads =
       let read = letter-read p b c w q is.0 reads in
       subst (λ n. Hops p n q) (sym (letters-dark c w is.0))
-      (b, c, read.0, reads-hops w (behind p b c) false q is.1 read.1)
+      (b, c, read.0, reads-hops w (past p b c) false q is.1 read.1)
 
   -- ---- after a cut
 
@@ -208,17 +208,17 @@ module _ (tokens : List TokenValue) (are : AreTexts tokens) where
       subst (λ x. ReadsOn tokens cut (x ∷ w) ↔ ReadsOn tokens (cut_at cut.place true) w) (sym is) (blank-on cut.place cut.is_apart w end)
 
   pub leads-letter : (cut : Cut) (c : ℕ) → ¬ (c ≡ blank) → (v : Word) → ReadsOn tokens cut (c ∷ v)
-      → LeadsTo tokens cut (c ∷ []) (cut_at (behind cut.place cut.is_apart c) false)
+      → LeadsTo tokens cut (c ∷ []) (cut_at (past cut.place cut.is_apart c) false)
   leads-letter cut c other v can w =
       let at = (letter-read cut.place cut.is_apart c v end other can).0 in (
         λ reads. (letter-read cut.place cut.is_apart c w end other reads).1,
         λ reads. read-letter cut.place cut.is_apart c w end at reads,
       )
 
-  pub letter-within : (cut : Cut) (c : ℕ) → ¬ (c ≡ blank) → (v : Word) → ReadsOn tokens cut (c ∷ v) → behind cut.place cut.is_apart c ≤ end
+  pub letter-within : (cut : Cut) (c : ℕ) → ¬ (c ≡ blank) → (v : Word) → ReadsOn tokens cut (c ∷ v) → past cut.place cut.is_apart c ≤ end
   letter-within cut c other v can =
       let read = letter-read cut.place cut.is_apart c v end other can in
-      Reads-order tokens v (behind cut.place cut.is_apart c) end read.1
+      Reads-order tokens v (past cut.place cut.is_apart c) end read.1
 
   pub leads-nothing : (cut : Cut) → LeadsTo tokens cut [] cut
   leads-nothing cut w = (λ reads. reads, λ reads. reads)
@@ -287,7 +287,7 @@ module _ (tokens : List TokenValue) (are : AreTexts tokens) where
       → (letter_place tokens cut < q) × (letters_in (c ∷ w) ≡ suc (letters_in w))
   past-letter cut c w q other reads =
       let read = letter-read cut.place cut.is_apart c w q other reads in
-      (omega (arith, Reads-order tokens w (behind cut.place cut.is_apart c) q read.1, length-letter c), letters-dark c w other)
+      (omega (arith, Reads-order tokens w (past cut.place cut.is_apart c) q read.1, length-letter c), letters-dark c w other)
 
   -- the gap at a cut, and then a word
   pub lead-joined : (p : ℕ) (b : Bool) (q e : ℕ) (v : Word) → Reads tokens p (lead b []) q → Reads tokens q v e → Reads tokens p (lead b v) e

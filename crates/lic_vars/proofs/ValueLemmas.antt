@@ -51,11 +51,11 @@ recorded_absent (variable name re ∷ xs) ys r spans = ap (λ s. record { name =
 recorded_absent (optional n ∷ xs) ys r spans = recorded_absent xs ys r spans
 
 -- what comes after the nodes
-abbrev Behind : (ns : Nodes) → Choice ns → List Move → List ℕ → List Span → List Assigned
-Behind ns d ms r spans = choice_values ns d spans ++ recorded 0 ms r (drop (letters_in (word_of ns d)) spans)
+abbrev Past : (ns : Nodes) → Choice ns → List Move → List ℕ → List Span → List Assigned
+Past ns d ms r spans = choice_values ns d spans ++ recorded 0 ms r (drop (letters_in (word_of ns d)) spans)
 
 recorded_choice : (ns : Nodes) (d : Choice ns) (ms : List Move) (r : List ℕ) (spans : List Span) →
-    recorded 0 (moves ns ++ ms) (record_of ns d ++ r) spans ≡ Behind ns d ms r spans
+    recorded 0 (moves ns ++ ms) (record_of ns d ++ r) spans ≡ Past ns d ms r spans
 recorded_choice no_node d ms r spans = refl
 recorded_choice (one_more (parts.letters txt) rest) d ms r spans =
     recorded_choice rest d ms r (drop (letters_in (chars txt)) spans)

@@ -9,7 +9,7 @@ use Rattle.lic_places.specs.Places.{AreTexts, OverBlank, is_blank_at, spelling_o
 use Rattle.lic_places.specs.Reads.{ReadsTokens}
 use Rattle.lic_places.proofs.TieRange.{spelling_is_read}
 use Rattle.lic_places.proofs.TokenPlaces.{OverBlank-order, tokens-next}
-pub use Rattle.lic_places.proofs.TokenPlaces.{place_start-first as tokens_stand-first, place_end-order as tokens_stand-order, place_start-text as tokens_stand-text, token-starts as no_blank-start, token-ends as no_blank-end}
+pub use Rattle.lic_places.proofs.TokenPlaces.{place_start-first as tokens_are_at-first, place_end-order as tokens_are_at-order, place_start-text as tokens_are_at-text, token-starts as no_blank-start, token-ends as no_blank-end}
 
 pub a_spelling_is_read_from_token_to_token : (tokens : List TokenValue) (first last : ℕ) (w : Word)
     → AreTexts tokens → first ≤ last → last < length tokens
@@ -20,8 +20,8 @@ a_spelling_is_read_from_token_to_token = λ tokens first last w known order with
 pub a_blank_leads_one_way-order : (tokens : List TokenValue) (p q : ℕ) → OverBlank tokens p q → p ≤ q
 a_blank_leads_one_way-order tokens p q leads = (OverBlank-order tokens p q leads).0
 
-pub tokens_stand-next : (tokens : List TokenValue) (i : ℕ) → AreTexts tokens → suc i < length tokens
+pub tokens_are_at-next : (tokens : List TokenValue) (i : ℕ) → AreTexts tokens → suc i < length tokens
     → (place_start tokens (suc i) ≡ place_end tokens i)
     ⊎ ((place_start tokens (suc i) ≡ suc (place_end tokens i))
     × IsTrue (is_blank_at (spelling_of tokens) (place_end tokens i)))
-tokens_stand-next tokens i texts within = tokens-next tokens i within
+tokens_are_at-next tokens i texts within = tokens-next tokens i within

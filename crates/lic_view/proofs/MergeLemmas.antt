@@ -16,7 +16,7 @@ use Rattle.lic_view.specs.Merged.{AreMerged}
 use Rattle.lic_view.specs.declared.sets.keep.Keep.{Keep}
 use Rattle.lic_view.proofs.Placed.{ArePlaced-append, Holds-among}
 
--- so many spans of the one list are merged with those of the other that are not left
+-- the first `number` spans of one list are merged with those of the other list, but those from `from` on
 pub record AreMergedTo (spans others all : List PlaceSpan) (number from : ℕ) : Type 0 where
   pub among : (s : PlaceSpan) → Contains all s → Contains spans s ⊎ Contains others s
   pub one : (s : PlaceSpan) → Contains (take number spans) s → Contains all s

@@ -7,18 +7,18 @@ use Rattle.lic_norm.specs.Places.{IsTokenEnd, place_end, place_start}
 use Rattle.lic_places.specs.Places.{AreTexts, is_blank_at, spelling_of}
 use Rattle.lic_view.specs.Views.{IsFirstFrom}
 pub use Rattle.lic_places.proofs.TextReading.{end-within}
-use Rattle.lic_view.proofs.Laws.{no_blank-start, tokens_stand-next, tokens_stand-order}
+use Rattle.lic_view.proofs.Laws.{no_blank-start, tokens_are_at-next, tokens_are_at-order}
 
 -- a token begins no earlier than the one before it ends
 pub start-after : (tokens : List TokenValue) (i : ℕ) → AreTexts tokens → suc i < length tokens → place_end tokens i ≤ place_start tokens (suc i)
 start-after tokens i texts within =
-    elim (tokens_stand-next tokens i texts within) [ inl same ↦ omega (arith, same) | inr next ↦ omega (arith, next.0) ]
+    elim (tokens_are_at-next tokens i texts within) [ inl same ↦ omega (arith, same) | inr next ↦ omega (arith, next.0) ]
 
 -- tokens end one after another
 pub ends-rise : (tokens : List TokenValue) (i j : ℕ) → AreTexts tokens → i < j → j < length tokens → place_end tokens i < place_end tokens j
 ends-rise tokens i zero texts below within = absurd (omega arith)
 ends-rise tokens i (suc k) texts below within =
-    let order : place_start tokens (suc k) < place_end tokens (suc k) = tokens_stand-order tokens (suc k) texts within in
+    let order : place_start tokens (suc k) < place_end tokens (suc k) = tokens_are_at-order tokens (suc k) texts within in
     let after : place_end tokens k ≤ place_start tokens (suc k) = start-after tokens k texts within in
     let le : i ≤ k = omega arith in
     elim (eq-or-lt_of_le le) [
@@ -43,7 +43,7 @@ pub starts-order : (tokens : List TokenValue) (i j : ℕ) → AreTexts tokens �
 starts-order tokens i j texts le within =
     elim (eq-or-lt_of_le le) [
       | inl same ↦ omega (arith, ap (λ n. place_start tokens n) same)
-      | inr before ↦ omega (arith, tokens_stand-order tokens i texts (omega arith), starts-after tokens i j texts before within)
+      | inr before ↦ omega (arith, tokens_are_at-order tokens i texts (omega arith), starts-after tokens i j texts before within)
     ]
 
 -- ---- the first token from a place on
@@ -63,7 +63,7 @@ pub begins-same : (tokens : List TokenValue) (place token : ℕ) → AreTexts to
     → (token < length tokens → place ≤ place_start tokens token) → IsFirstFrom (place_start tokens) (length tokens) place token
 begins-same tokens place token texts first begins = record {
   within = first.within;
-  before = λ i below. omega (arith, first.before i below, tokens_stand-order tokens i texts (omega (arith, first.within)));
+  before = λ i below. omega (arith, first.before i below, tokens_are_at-order tokens i texts (omega (arith, first.within)));
   reached = λ i le within. omega (arith, begins (omega arith), starts-order tokens token i texts le within);
 }
 

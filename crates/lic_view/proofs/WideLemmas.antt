@@ -92,7 +92,7 @@ listed-more keep tokens P span ends i old new next ys adds back is = record {
         backward e (inl below) = inl (e.0, below, e.2, e.3)
         backward e (inr reached) = let same : e.0 ≡ i = omega (arith, e.1) in inr (e.2 ∙ ap (λ k. get_or ends k 0) same, e.3)
 
--- all places of a span that are meant are listed, and those that come after so many lie after the span
+-- all places of a span that are meant are listed, and those that come after `count` of them lie after the span
 pub listed-all : (keep : Keep) (tokens : List TokenValue) (P : Word → Type 0) (Meant : ℕ → Type 0) (span : PlaceSpan) (ends : List ℕ) (count : ℕ) (old new : List PlaceSpan) →
     gap_of span.kind ≡ 1 → HoldThoseOf Meant span ends → ((k : ℕ) → count ≤ k → k < length ends → span.high < get_or ends k 0) →
     ((p q last : ℕ) (w : Word) → Reaches tokens (span ∷ []) q last → P w → Reads tokens p w q → Meant q) →

@@ -27,9 +27,9 @@ SpellsEnd w [] = w ≡ []
 SpellsEnd w (p ∷ rest) = (n : ℕ) × Allows p.0 n × (v : Word) × (w ≡ blanks n ++ p.1 ∷ v) × SpellsEnd v rest
 
 -- each letter and then the gap after it
-abbrev SpellsBehind : Word → List (Gap × ℕ) → Type 0
-SpellsBehind w [] = w ≡ []
-SpellsBehind w (p ∷ rest) = (n : ℕ) × Allows p.0 n × (v : Word) × (w ≡ p.1 ∷ blanks n ++ v) × SpellsBehind v rest
+abbrev SpellsAfter : Word → List (Gap × ℕ) → Type 0
+SpellsAfter w [] = w ≡ []
+SpellsAfter w (p ∷ rest) = (n : ℕ) × Allows p.0 n × (v : Word) × (w ≡ p.1 ∷ blanks n ++ v) × SpellsAfter v rest
 
 blanks_then : (n : ℕ) (w : Word) → blanks n ++ blank ∷ w ≡ blank ∷ blanks n ++ w
 blanks_then zero w = refl
@@ -57,10 +57,10 @@ End-snoc (p ∷ rest) u g c n (k, b, v, e, s) a = (
 )
 
 -- from the end, the gap after a letter comes before it
-Behind-reversed : (B : List (Gap × ℕ)) (w : Word) → SpellsBehind w B → SpellsEnd (reverse w) (reverse B)
-Behind-reversed [] w e = ap reverse e
-Behind-reversed (p ∷ rest) w (n, a, v, e, s) =
-    let whole = End-snoc (reverse rest) (reverse v) p.0 p.1 n (Behind-reversed rest v s) a in
+After-reversed : (B : List (Gap × ℕ)) (w : Word) → SpellsAfter w B → SpellsEnd (reverse w) (reverse B)
+After-reversed [] w e = ap reverse e
+After-reversed (p ∷ rest) w (n, a, v, e, s) =
+    let whole = End-snoc (reverse rest) (reverse v) p.0 p.1 n (After-reversed rest v s) a in
     let word : reverse w ≡ reverse v ++ blanks n ++ p.1 ∷ [] =
     ap reverse e ∙ reverse-append (p.1 ∷ []) (blanks n ++ v)
     ∙ ap (λ t. t ++ p.1 ∷ []) (reverse-append (blanks n) v ∙ ap (λ t. reverse v ++ t) (reverse-blanks n)) in
@@ -69,7 +69,7 @@ Behind-reversed (p ∷ rest) w (n, a, v, e, s) =
 
 -- the blanks before the first letter, and the rest letter by letter
 to_after : (p : Gap × ℕ) (rest : List (Gap × ℕ)) (w : Word) → SpellsGapped w (p ∷ rest)
-    → (k : ℕ) × Allows p.0 k × (u : Word) × (w ≡ blanks k ++ u) × SpellsBehind u (past (p ∷ rest))
+    → (k : ℕ) × Allows p.0 k × (u : Word) × (w ≡ blanks k ++ u) × SpellsAfter u (past (p ∷ rest))
 to_after p [] w (n, a, v, e, (m, t)) = (n, a, p.1 ∷ v, e, (m, tt, [], ap (λ s. p.1 ∷ s) (t ∙ sym (append-nil (blanks m))), refl))
 to_after p (q ∷ rest) w (n, a, v, e, s) =
     let t = to_after q rest v s in
@@ -81,7 +81,7 @@ SpellsGapped-mirror [] w (k, e) = (k, ap reverse e ∙ reverse-blanks k)
 SpellsGapped-mirror (p ∷ rest) w h =
     let t = to_after p rest w h in
     let word : reverse w ≡ reverse t.2 ++ blanks t.0 = ap reverse t.3 ∙ reverse-append (blanks t.0) t.2 ∙ ap (λ s. reverse t.2 ++ s) (reverse-blanks t.0) in
-    rw word (End-then_blanks (mirror (p ∷ rest)) (reverse t.2) t.0 (Behind-reversed (past (p ∷ rest)) t.2 t.4))
+    rw word (End-then_blanks (mirror (p ∷ rest)) (reverse t.2) t.0 (After-reversed (past (p ∷ rest)) t.2 t.4))
 
 abbrev head_gap : List (Gap × ℕ) → Gap
 head_gap [] = free

@@ -55,8 +55,8 @@ impl Beginnings {
         self.alone = u64::MAX;
     }
 
-    /// Adds a text by its bit, which has so many characters, and these two first, if it has two. Where it begins in white space, no
-    /// line shows where it may begin.
+    /// Adds a text of `size` characters by its bit; `first` and `second` are its first two, if it has two. Where it begins in white space,
+    /// no line shows where it may begin.
     fn add(&mut self, bit: u64, size: usize, first: char, second: char)
         ensures known { (k : ℕ) (text : List ℕ) → k < 64 → has_bit bit k ≡ true → length text ≡ size → 0 < size
             → slice_index text 0 ≡ first → (1 < size → slice_index text 1 ≡ second) → IsKnown self.new k text }

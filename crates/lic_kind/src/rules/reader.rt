@@ -43,7 +43,7 @@ fn is_text(word: &str) -> bool
 
 /// What is read of a file so far.
 #[derive(Drop)]
-pub(crate) struct Reader {
+pub(crate) struct RulesReader {
     pub(crate) lead: Vec<RuleText>,
     pub(crate) lead_space: Vec<RuleText>,
     pub(crate) tail: Vec<RuleText>,
@@ -55,12 +55,12 @@ pub(crate) struct Reader {
     count: usize,
 }
 
-impl Reader {
-    pub(crate) fn new(alloc: Global) -> Reader
+impl RulesReader {
+    pub(crate) fn new(alloc: Global) -> RulesReader
         ensures rules { rules_read result ≡ rules_in [] }
         ensures count { result.count ≡ 0 }
     {
-        Reader {
+        RulesReader {
             lead: Vec::new(alloc),
             lead_space: Vec::new(alloc),
             tail: Vec::new(alloc),

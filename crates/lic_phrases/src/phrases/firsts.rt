@@ -10,7 +10,7 @@ use std::alloc::{AllocError, Global};
 /// How many bytes there are.
 const BYTES: usize = 256;
 
-/// The bit of a mask that is for texts of so many bytes and more.
+/// The bit of a mask that is for texts of 63 bytes and more.
 const LONG: usize = 63;
 
 /// The bits for texts of two bytes and more.
@@ -50,7 +50,7 @@ fn add(lengths: &mut [u64; BYTES], text: &[u8])
     lengths[text[0] as usize] |= 1 << text.len().min(LONG);
 }
 
-/// Whether there is a bit for this byte and so many bytes.
+/// Whether there is a bit for texts of `len` bytes that begin with this byte.
 #[inline(always)]
 fn has(table: &[u64; BYTES], byte: u8, len: usize) -> bool
     ensures { result ≡ has_bit (slice_index table.now byte) (min len 63) }

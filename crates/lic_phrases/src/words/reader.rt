@@ -26,7 +26,7 @@ const MAX_PHRASES: usize = 4096;
 
 /// What is read of a list so far.
 #[derive(Drop)]
-pub(crate) struct Reader {
+pub(crate) struct WordsReader {
     /// The keys of the phrases.
     pub(crate) keys: IndexSet<String>,
     /// The phrases, each once, where it occurs first.
@@ -37,14 +37,14 @@ pub(crate) struct Reader {
     count: usize,
 }
 
-impl Reader {
-    pub(crate) fn new(alloc: Global) -> Reader
+impl WordsReader {
+    pub(crate) fn new(alloc: Global) -> WordsReader
         ensures listed { AreListed result.keys.keys result.phrases.items result.heads.items }
         ensures phrases { result.phrases.items ≡ [] }
         ensures heads { result.heads.items ≡ [] }
         ensures count { result.count ≡ 0 }
     {
-        Reader {
+        WordsReader {
             keys: IndexSet::new(alloc),
             phrases: Vec::new(alloc),
             heads: Vec::new(alloc),

@@ -8,7 +8,7 @@ use Rattle.lic_marks.specs.Nodes.{core_of}
 use Rattle.lic_auto.specs.Compiling.{AreSame, pattern_words}
 use Rattle.lic_auto.specs.Directions.{read}
 use Rattle.lic_auto.proofs.WordSets.{Either, EmptyIf}
-use Rattle.lic_auto.proofs.Taken.{measured-push, choice_keeps, choice_leaves_out, choice_with_empty, choice_without, node_told}
+use Rattle.lic_auto.proofs.Taken.{measured-push, choice_keeps, choice_leaves_out, choice_with_empty, choice_without, node_given}
 use Rattle.lic_auto.proofs.Trees.{AllHaveWords-measured, AllHaveWords-push, changed, compiled_sequence, compiled_choice, compiled_repetition, more_of}
 use Rattle.lic_auto.proofs.compile.+compile_tree.Goals.{compile_choice-then-weight-gt0+in_ok-push, compile_choice-else-weight-gt0, compile_choice-then-has_empty+in_ok-push-2, compile_choice-else-has_empty}
 use Rattle.lic_auto.proofs.compile.+compile_tree.Goals as goal
@@ -43,16 +43,16 @@ compile_choice-returns t c =
     let all = map (read c.args.direction) (map pattern_words c.args.subs.now) in
     let b = c.loop-sub.has_empty in
     let kept = WordsOf (alt_all (map core_of c.loop-sub.kept.items)) in
-    let told : AreSame (Either (EmptyIf b) kept) (Language (words.alt_all all)) =
+    let choice : AreSame (Either (EmptyIf b) kept) (Language (words.alt_all all)) =
     rw (take_all c.loop-sub.sub-index c.args.subs.now c.loop-sub-test.false) at c.loop-sub.invariant.words in
     let same : AreSame (WordsOf (alt_all (map core_of c.if-has_empty.kept.items))) (Language (words.alt_all all)) =
     elim c.if-has_empty.branch [
       | compile_choice-then-has_empty+in_ok-push-2 w ↦
-          choice_with_empty _ _ _ b _ (ap (λ v. v.items) w.kept-is ∙ w.in_ok-push-2.ensures.items) w.empty_word.ensures w.if-has_empty.true told
+          choice_with_empty _ _ _ b _ (ap (λ v. v.items) w.kept-is ∙ w.in_ok-push-2.ensures.items) w.empty_word.ensures w.if-has_empty.true choice
       | compile_choice-else-has_empty w ↦
-          rw w.kept-is (choice_without kept _ b w.if-has_empty.false told)
+          rw w.kept-is (choice_without kept _ b w.if-has_empty.false choice)
     ] in
-    rw c.ok_or.ensures.value (node_told c.alt.result _ _ _ same c.alt.ensures.built)
+    rw c.ok_or.ensures.value (node_given c.alt.result _ _ _ same c.alt.ensures.built)
 
 pub compile_tree-returns-in_ok-compile_trees-in-Cat : goal.compile_tree-returns-in_ok-compile_trees-in-Cat
 compile_tree-returns-in_ok-compile_trees-in-Cat t c =

@@ -7,7 +7,7 @@ use Rattle.lic_auto.specs.Compiling.{AreSame, Repeats}
 use Rattle.lic_auto.proofs.Trees.{changed}
 use Rattle.lic_auto.proofs.Repetitions.{star_sequence, plus_words, unbounded_sequence, unbounded_words}
 use Rattle.lic_auto.proofs.Copies.{copies_of_one}
-use Rattle.lic_auto.proofs.Taken.{node_told}
+use Rattle.lic_auto.proofs.Taken.{node_given}
 use Rattle.lic_auto.proofs.compile.unbounded.Goals as goal
 
 pub returns-then-min-eq0 : goal.returns-then-min-eq0
@@ -38,5 +38,5 @@ pub returns-in_ok-new-in_default : goal.returns-in_ok-new-in_default
 returns-in_ok-new-in_default c =
     let some : 1 ≤ c.args.min = omega arith in
     let built = rw c.in_ok-new-in_default.ensures.ok at c.repeat.ensures.built in
-    rw c.ok_or.ensures.value (node_told c.repeat.result _ (times_over (Unbounded (c.args.min - 1)) (core_of c.args.body)) _
+    rw c.ok_or.ensures.value (node_given c.repeat.result _ (times_over (Unbounded (c.args.min - 1)) (core_of c.args.body)) _
     (unbounded_words (core_of c.args.body) c.args.min some) built)

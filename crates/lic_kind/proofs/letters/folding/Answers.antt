@@ -1,4 +1,4 @@
--- The letters come from the iterator of the folded character; four of them have room, and it gives three at most.
+-- The letters come from the iterator of the folded character; the list holds four, and it gives three at most.
 use Rattle.std.proofs.Common.{◌≡◌, ◌++◌, ◌∷◌, [], ◌<◌, length, Ok, Some, ap, sym, subst, ◌∙◌, arith}
 use Rattle.std.proofs.lemmas.Iterator.Adapters.{items_from_extend, YieldsList-from_once}
 use Rattle.std.specs.Iterator.{AlwaysYields}

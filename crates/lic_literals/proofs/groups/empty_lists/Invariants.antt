@@ -1,4 +1,4 @@
--- So many lists so far.
+-- As many lists as rounds so far.
 use Rattle.std.proofs.Common.{◌≡◌, length}
 use Rattle.lic_literals.proofs.groups.empty_lists.Given as goal
 

@@ -12,7 +12,7 @@ use Rattle.lic_literals.proofs.KeptLemmas.{Contains-shifted, ends_known, ends_un
 use Rattle.lic_literals.proofs.prefilter.candidate.Goals as goal
 
 pub returns-in_default-clause-complete : goal.returns-in_default-clause-complete
-returns-in_default-clause-complete c = λ e can room. ends_unknown (λ ends. Contains ends e) c.args.number
+returns-in_default-clause-complete c = λ e can fits. ends_unknown (λ ends. Contains ends e) c.args.number
 
 pub returns-in_default-clause-rising : goal.returns-in_default-clause-rising
 returns-in_default-clause-rising c = ends_unknown IsStrictlyIncreasing c.args.number
@@ -21,7 +21,7 @@ pub returns-in_default-clause-within : goal.returns-in_default-clause-within
 returns-in_default-clause-within c = ends_unknown (All (λ e. e ≤ c.args.limit)) c.args.number
 
 pub returns-clause-complete : goal.returns-clause-complete
-returns-clause-complete c = λ e can room.
+returns-clause-complete c = λ e can fits.
     let own = c.in-Some.own in
     let hits = c.args.hits.now.value in
     let ends : Ends = record { hits = c.in_ok-clone.field-0; window = own.window; to_end = own.to_end; limit = c.args.limit } in
@@ -30,7 +30,7 @@ returns-clause-complete c = λ e can room.
     (λ (there : Contains (get_or (lists_of hits) noted.slot []) p).
     ends_known (λ list. Contains list e) c.args.number ends
     (Contains-shifted own.to_end c.args.limit (offsets_of ends.hits.value own.window) p e
-    (subst (λ h. Contains (offsets_of h own.window) p) (sym c.in_ok-clone.ensures.cases) (listed_offset hits own.window p noted.slot noted.at there)) at room))
+    (subst (λ h. Contains (offsets_of h own.window) p) (sym c.in_ok-clone.ensures.cases) (listed_offset hits own.window p noted.slot noted.at there)) at fits))
     (λ (full : 262144 ≤ hits.count).
     absurd (false≢true (sym c.if-not-is_full.true ∙ c.is_full.ensures.1 (subst (λ h. 262144 ≤ h.count) (sym c.deref.ensures) full))))
     noted.listed

@@ -65,15 +65,15 @@ loop-id-init g c = record {
 pub loop-id-preserved : goal.loop-id-preserved
 loop-id-preserved g c =
     let longer : length (c.loop-id.yielded ++ c.in-Some.id ∷ []) ≡ length c.loop-id.yielded + 1 = length-append _ _ in
-    let told = c.in_ok-report_left_out-in-Err.ensures in
+    let reported = c.in_ok-report_left_out-in-Err.ensures in
     record {
       within = omega (arith, longer, c.loop-id.invariant.within);
       read = c.loop-id.invariant.read;
       left_out = (λ refused. omega (arith, longer, c.loop-id.invariant.within), λ fewer. refl);
       gone_over =
-          left_out_more c.loop-id.yielded (pairs_known c.loop-id.templates.items) c.in-Some.id told.0 c.loop-id.invariant.gone_over
+          left_out_more c.loop-id.yielded (pairs_known c.loop-id.templates.items) c.in-Some.id reported.0 c.loop-id.invariant.gone_over
           (subst (λ id. IsReported (g.E.Sink.taken c.loop-id.err) (g.E.Sink.taken c.report_left_out.new.err) (g.E.Sink.failed c.loop-id.err)
-          (g.E.Sink.failed c.report_left_out.new.err) (line_of_template id told.0)) c.as_str-in-Err.ensures.value told.1);
+          (g.E.Sink.failed c.report_left_out.new.err) (line_of_template id reported.0)) c.as_str-in-Err.ensures.value reported.1);
     }
 
 pub loop-id-preserved-in-Continue-1 : goal.loop-id-preserved-in-Continue-1

@@ -14,7 +14,7 @@ returns c =
     let n = c.line_end.result in
     let ascii : IsAscii (take n lines) = IsAscii-take lines n c.requires.ascii in
     IfOk-weaker c.line_begins_in_blank.result _ _
-    (λ begins told. IfSome_then begins told
+    (λ begins given. IfSome_then begins given
     (λ blank begin. text-front (rules_of c.args.rules.now) blank lines (take n lines) (drop n lines) ascii
     (sym (take-append-drop n lines)) c.line_end.ensures.line begin))
     c.line_begins_in_blank.ensures

@@ -39,7 +39,7 @@ returns-clause-letters c =
     IfOk-weaker c.with_edges.result
     (λ (edged : String Global). string_bytes edged ≡ with_edges cells c.spelled_text.result.now)
     (λ (edged : String Global). string_bytes edged ≡ piece_of rules words c.args.at_line_start c.args.before c.args.text.now)
-    (λ edged told. told ∙ ap (λ l. with_edges cells l) (c.spelled_text.ensures ∙ ap spelled texts))
+    (λ edged given. given ∙ ap (λ l. with_edges cells l) (c.spelled_text.ensures ∙ ap spelled texts))
     (c.with_edges.ensures cells c.in_ok-edges.ensures.edges)
 
 pub returns-clause-token_texts : goal.returns-clause-token_texts
@@ -47,7 +47,7 @@ returns-clause-token_texts c =
     let rules = rules_of c.args.rules.now in
     let first = piece_tokens rules c.args.at_line_start c.args.before c.args.text.now in
     IfOk-weaker c.with_edges.result _ _
-    (λ (edged : String Global) told. rewritten-all c.args.words.now first c.spellings_are_token_texts.ensures (piece-texts _ _ _ _))
+    (λ (edged : String Global) given. rewritten-all c.args.words.now first c.spellings_are_token_texts.ensures (piece-texts _ _ _ _))
     (c.with_edges.ensures (piece_cells rules c.args.at_line_start c.args.before c.args.text.now) c.in_ok-edges.ensures.edges)
 
 pub returns-clause-utf8 : goal.returns-clause-utf8
@@ -58,6 +58,6 @@ returns-clause-utf8 c =
     let taken = c.in_ok-edges.ensures.taken in
     let texts = texts_by words _ taken.0 first c.in_ok-tokens.tokens (c.in_ok-tokens.ensures taken.0 taken.1) c.in_ok-edges.ensures.phrases taken.2 in
     IfOk-weaker c.with_edges.result _ _
-    (λ (edged : String Global) told. subst (λ (texts : List (List ℕ)). All IsUtf8 texts) texts
+    (λ (edged : String Global) given. subst (λ (texts : List (List ℕ)). All IsUtf8 texts) texts
     (All-map IsUtf8 (λ t. t.text) c.in_ok-tokens.tokens c.texts_are_utf8.ensures))
     (c.with_edges.ensures (piece_cells rules c.args.at_line_start c.args.before c.args.text.now) c.in_ok-edges.ensures.edges)

@@ -6,7 +6,7 @@ use Rattle.std.proofs.lemmas.Str.{IsUtf8-between}
 use Rattle.lic_norm.specs.Places.{place_start, place_end}
 use Rattle.lic_places.specs.Places.{AreTexts, spelling_of}
 use Rattle.lic_places.proofs.TokenPlaces.{spelling-utf8}
-use Rattle.lic_view.proofs.Laws.{tokens_stand-order}
+use Rattle.lic_view.proofs.Laws.{tokens_are_at-order}
 use Rattle.lic_view.proofs.ViewPlaces.{ends-order}
 use Rattle.lic_view.proofs.CountPlaces.{start-whole, end-whole}
 use Rattle.lic_view.proofs.ViewRanges.{spelled-at, spelled-none}
@@ -17,7 +17,7 @@ slice_bounds-utf8_text-count c =
     let tokens = c.args.text.now.tokens in
     let texts : AreTexts tokens = record { utf8 = c.tokens_are_utf8.ensures; texts = c.tokens_are_token_texts.ensures } in
     let some : 0 < c.args.count = omega (arith, c.if-count-eq0.false) in
-    let first : place_start tokens c.args.first < place_end tokens c.args.first = tokens_stand-order tokens c.args.first texts (omega (arith, c.requires)) in
+    let first : place_start tokens c.args.first < place_end tokens c.args.first = tokens_are_at-order tokens c.args.first texts (omega (arith, c.requires)) in
     omega (
       arith,
       c.place-start.ensures.start,
@@ -31,7 +31,7 @@ slice_bounds-utf8_text-start c =
     let tokens = c.args.text.now.tokens in
     let texts : AreTexts tokens = record { utf8 = c.tokens_are_utf8.ensures; texts = c.tokens_are_token_texts.ensures } in
     let some : 0 < c.args.count = omega (arith, c.if-count-eq0.false) in
-    let first : place_start tokens c.args.first < place_end tokens c.args.first = tokens_stand-order tokens c.args.first texts (omega (arith, c.requires)) in
+    let first : place_start tokens c.args.first < place_end tokens c.args.first = tokens_are_at-order tokens c.args.first texts (omega (arith, c.requires)) in
     omega (
       arith,
       c.place-start.ensures.start,
@@ -57,7 +57,7 @@ utf8_text-requires c =
     let order : place_start tokens first ≤ place_end tokens last =
     omega (
       arith,
-      tokens_stand-order tokens first texts (omega (arith, c.requires, c.if-count-eq0.false)),
+      tokens_are_at-order tokens first texts (omega (arith, c.requires, c.if-count-eq0.false)),
       ends-order tokens first last texts (omega (arith, c.if-count-eq0.false)) (omega (arith, c.requires, c.if-count-eq0.false)),
     ) in
     subst IsUtf8

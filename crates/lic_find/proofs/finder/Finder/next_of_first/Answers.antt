@@ -81,19 +81,19 @@ invariant_of-self-in-loop-triple c =
     let f = c.loop-triple.self in
     let tokens = f.text.now.tokens in
     let token : TokenValue = record { text = c.token.result.text.now; span = c.token.result.span } in
-    let room : f.end < length tokens = omega arith in
+    let fits : f.end < length tokens = omega arith in
     let text = c.token.ensures.text token in
     record {
       come = ∥∥₁_map f.come (λ come.
           HasCome-push f.set.now tokens (place_of f) f.run
           (starts_in f.starts) f.first f.end come c.push.new.self token
-          (c.in_default.ensures come) room c.push.ensures.set c.push.ensures.numbers
+          (c.in_default.ensures come) fits c.push.ensures.set c.push.ensures.numbers
           (subst (λ text. RunHasTakenAmong c.push.new.self come.numbers (letters_up_to tokens f.first f.end ++ chars text ∷ [])) text
           (c.push.ensures.among come.numbers (letters_up_to tokens f.first f.end) come.taken)));
       order = let order = f.order in omega arith;
       counted = subst (λ ns. AreCounted f.set.now tokens ns f.began f.noting (steps_of c.push.new.self) f.first (f.end + 1)) (sym c.push.ensures.numbers)
           (AreCounted-push f.set.now tokens (numbers_of f.run) f.began f.noting (steps_of f.run) f.first f.end f.counted token
-          (steps_of c.push.new.self) f.order room c.push.ensures.never_fall
+          (steps_of c.push.new.self) f.order fits c.push.ensures.never_fall
           (subst (λ text. steps_of c.push.new.self ≤ steps_of f.run + 2 * letters_in (chars text)) text c.push.ensures.most)
           (subst (λ text. steps_of c.push.new.self < 2 ^ 64 - 1 → steps_of f.run + letters_in (chars text) ≤ steps_of c.push.new.self) text
           (c.push.ensures.least (sym c.dead.ensures.value ∙ c.if-dead.false))));
@@ -105,10 +105,10 @@ loop-triple-preserved c =
     let tokens = f.text.now.tokens in
     let inv = c.loop-triple.invariant in
     let token : TokenValue = record { text = c.token.result.text.now; span = c.token.result.span } in
-    let room : f.end < length tokens = omega arith in
+    let fits : f.end < length tokens = omega arith in
     let most : steps_of c.push.new.self ≤ steps_of f.run + 2 * letters_in (chars (get_or tokens f.end token).text) =
     subst (λ text. steps_of c.push.new.self ≤ steps_of f.run + 2 * letters_in (chars text)) (c.token.ensures.text token) c.push.ensures.most in
-    let left = letters_of-drop tokens f.end token room in
+    let left = letters_of-drop tokens f.end token fits in
     let before = inv.most in
     let fall = inv.never_fall in
     let grows = c.push.ensures.never_fall in

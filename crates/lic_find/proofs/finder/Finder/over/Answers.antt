@@ -8,7 +8,7 @@ use Rattle.lic_find.specs.Listing.{matches_among}
 use Rattle.lic_find.specs.Starts.{starts_in}
 use Rattle.lic_find.specs.Scans.{HasCome}
 use Rattle.lic_find.proofs.AmongLemmas.{AreMatchesAmong-listed}
-use Rattle.lic_find.proofs.BeginningLemmas.{HasBegun, HasBegun-told, HasCome-begun, AreCounted-begun, begins_whole, IfNone-map}
+use Rattle.lic_find.proofs.BeginningLemmas.{HasBegun, HasBegun-given, HasCome-begun, AreCounted-begun, begins_whole, IfNone-map}
 use Rattle.lic_find.proofs.finder.Finder.over.Goals as goal
 
 pub begin_next-requires : goal.begin_next-requires
@@ -35,7 +35,7 @@ invariant_of-result c =
     let begin = c.first_token.result in
     let from = c.min-from.result in
     let begun : HasBegun starts left run new r =
-    HasBegun-told starts left run new r c.begin_next.ensures.some
+    HasBegun-given starts left run new r c.begin_next.ensures.some
     (IfNone-map r (λ (empty, same, still). (empty, ap starts_in same, still)) c.begin_next.ensures.none) in
     let low : from ≤ begin = omega (arith, c.min-from.ensures) in
     let high : from < length tokens → begin ≤ from = λ h. omega (arith, c.min-from.ensures, c.len.ensures) in

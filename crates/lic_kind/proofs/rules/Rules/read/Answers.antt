@@ -7,7 +7,7 @@ use Rattle.lic_kind.specs.declared.rules_fault.RulesFault.{RulesFault}
 use Rattle.lic_kind.specs.RuleFiles.{IsFirstFault, AreSound, line_of, lines_of, rules_in, texts_before, out_of_memory, fault_at}
 use Rattle.lic_kind.specs.LineRules.{rules_of}
 use Rattle.lic_kind.specs.RuleReading.{rules_read}
-use Rattle.lic_kind.proofs.FirstFault.{line_at, next_rules, next_count, cause_here, sound_more, told}
+use Rattle.lic_kind.proofs.FirstFault.{line_at, next_rules, next_count, cause_here, sound_more, first_reported}
 use Rattle.lic_kind.proofs.rules.Rules.read.Goals as goal
 
 pub loop-line-init : goal.loop-line-init
@@ -32,7 +32,7 @@ returns-in-Err-clause-refused c =
     let at : c.at.result ≡ fault_at (n + 1) c.in-Err.cause = c.at.ensures ∙ ap (λ k. fault_at (k + 1) c.in-Err.cause) known.number in
     let cause = cause_here (lines_of file) n (line_of line) c.loop-line.reader.count here.1 known.count in
     subst (λ (f : RulesFault). IsFirstFault (lines_of file) f ⊎ (f ≡ out_of_memory)) (sym at)
-    (told (lines_of file) n c.in-Err.cause here.0 known.sound (⊎_elim (λ fault. inl (cause ∙ fault)) (λ memory. inr memory) c.in-Err.ensures.fault))
+    (first_reported (lines_of file) n c.in-Err.cause here.0 known.sound (⊎_elim (λ fault. inl (cause ∙ fault)) (λ memory. inr memory) c.in-Err.ensures.fault))
 
 pub loop-line-preserved : goal.loop-line-preserved
 loop-line-preserved c =

@@ -14,8 +14,8 @@ returns-in-Some-clause-twice c = λ id same.
     let repeats : RepeatsAt moved c.in-Some.k = rw c.deref.ensures.value at c.in-Some.ensures.found in
     let twice = OccursTwice-from_repeat c.args.templates.items moved c.in-Some.k taken c.sort_unstable_by.ensures.permutation repeats in
     let alike : get_or moved c.in-Some.k taken ≡ taken = sym c.swap_remove-id.ensures.value in
-    let told : taken.0 ≡ id = cc in
-    (omega arith, subst (λ i. OccursTwice (string_bytes i) (pairs_known c.args.templates.items)) (ap (λ p. p.0) alike ∙ told) twice)
+    let named : taken.0 ≡ id = cc in
+    (omega arith, subst (λ i. OccursTwice (string_bytes i) (pairs_known c.args.templates.items)) (ap (λ p. p.0) alike ∙ named) twice)
 
 pub returns-in_err-assemble-clause-memory : goal.returns-in_err-assemble-clause-memory
 returns-in_err-assemble-clause-memory c = λ _.

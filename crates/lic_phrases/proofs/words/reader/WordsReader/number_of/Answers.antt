@@ -2,7 +2,7 @@ use Rattle.std.proofs.Common.{◌≡◌, ◌++◌, ◌∷◌, [], Bool, true, fa
 use Rattle.std.specs.List.{list_any}
 use Rattle.lic_phrases.specs.Keys.{key_of, texts_in}
 use Rattle.lic_phrases.proofs.ListedLemmas.{listed_more, reads_new, reads_again}
-use Rattle.lic_phrases.proofs.words.reader.Reader.number_of.Goals as goal
+use Rattle.lic_phrases.proofs.words.reader.WordsReader.number_of.Goals as goal
 
 none-from : (new found : Bool) → new ≡ true → new ≡ not found → found ≡ false
 none-from new true is made = let h : true ≡ false = sym is ∙ made in absurd cc

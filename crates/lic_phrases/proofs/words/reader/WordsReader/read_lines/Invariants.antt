@@ -2,7 +2,7 @@ use Rattle.std.proofs.Common.{◌≡◌, ◌+◌, [], length, take, drop}
 use Rattle.lic_phrases.specs.Listed.{AreListed, phrases_in}
 use Rattle.lic_phrases.specs.WordLists.{fault_from, first_fault, located, phrase_lines}
 use Rattle.lic_phrases.specs.WordReading.{HasRead}
-use Rattle.lic_phrases.proofs.words.reader.Reader.read_lines.Given as goal
+use Rattle.lic_phrases.proofs.words.reader.WordsReader.read_lines.Given as goal
 
 abbrev pub invariant-loop-line : goal.invariant-loop-line
 invariant-loop-line l = record {

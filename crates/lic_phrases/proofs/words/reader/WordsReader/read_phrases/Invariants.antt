@@ -2,7 +2,7 @@ use Rattle.std.proofs.Common.{◌≡◌, ℕ, ◌<◌, List, [], ◌++◌, lengt
 use Rattle.lic_phrases.specs.Listed.{AreListed, phrases_in}
 use Rattle.lic_phrases.specs.WordLists.{fault_from, split_phrases}
 use Rattle.lic_phrases.specs.WordReading.{HasRead}
-use Rattle.lic_phrases.proofs.words.reader.Reader.read_phrases.Given as goal
+use Rattle.lic_phrases.proofs.words.reader.WordsReader.read_phrases.Given as goal
 
 abbrev pub invariant-loop-phrase : goal.invariant-loop-phrase
 invariant-loop-phrase l = record {

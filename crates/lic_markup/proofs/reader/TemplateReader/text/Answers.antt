@@ -7,7 +7,7 @@ use Rattle.lic_markup.specs.PartTexts.{HavePieceTexts}
 use Rattle.lic_markup.specs.Reading.{Level}
 use Rattle.lic_markup.specs.Views.{level_of}
 use Rattle.lic_markup.proofs.PartTextLemmas.{piece_of-text, with_letters-texts}
-use Rattle.lic_markup.proofs.reader.Reader.text.Goals as goal
+use Rattle.lic_markup.proofs.reader.TemplateReader.text.Goals as goal
 
 pub returns-clause-texts : goal.returns-clause-texts
 returns-clause-texts c =

@@ -9,7 +9,7 @@ use Rattle.lic_phrases.specs.WordLists.{fault_at, fault_from, first_fault, locat
 use Rattle.lic_phrases.specs.WordReading.{HasRead}
 use Rattle.lic_phrases.proofs.FaultLemmas.{line_has_fault, lines_sound_more}
 use Rattle.lic_phrases.proofs.ListedLemmas.{mapped_at, take-next, nothing_read}
-use Rattle.lic_phrases.proofs.words.reader.Reader.read_lines.Goals as goal
+use Rattle.lic_phrases.proofs.words.reader.WordsReader.read_lines.Goals as goal
 
 line_at : (text : List ℕ) (k : ℕ) (line : List ℕ)
     → (k < length (slice_split (λ b. b == 0x0A) text)) × (line ≡ get_or (slice_split (λ b. b == 0x0A) text) k line)
@@ -34,8 +34,8 @@ returns-in-Err-clause-refused c =
     let turn = YieldsList-turn (YieldsList-from_str_split 10 text (lit< tt) (cc) (cc)
     (cc)) c.loop-line.yielded _ c.loop-line.yielded_by _ _ c.in-Some.line c.in-Some.is c.next.ensures.steps in
     let here = line_at text (length c.loop-line.yielded) c.in-Some.line.now turn in
-    let told : c.at.result ≡ fault_at (length c.loop-line.yielded + 1) c.in-Err.cause = c.at.ensures ∙ ap (λ n. fault_at (n + 1) c.in-Err.cause) known.number in
-    subst (λ (f : WordsFault). (first_fault text ≡ Some f) ⊎ (f ≡ out_of_memory)) (sym told)
+    let reported : c.at.result ≡ fault_at (length c.loop-line.yielded + 1) c.in-Err.cause = c.at.ensures ∙ ap (λ n. fault_at (n + 1) c.in-Err.cause) known.number in
+    subst (λ (f : WordsFault). (first_fault text ≡ Some f) ⊎ (f ≡ out_of_memory)) (sym reported)
     (line_has_fault (phrase_lines text) (length c.loop-line.yielded) c.loop-line.self.count
     (phrases_of_line c.in-Some.line.now) c.in-Err.cause
     (first_fault text) known.sound here.0 here.1 c.in-Err.ensures.fault)

@@ -11,7 +11,7 @@ use Rattle.lic_phrases.specs.WordLists.{fault_from, phrase_texts, split_phrases}
 use Rattle.lic_phrases.specs.WordReading.{HasRead}
 use Rattle.lic_phrases.proofs.FaultLemmas.{has_fault_at, sound_more}
 use Rattle.lic_phrases.proofs.ListedLemmas.{mapped_at, take-next, numbered_more, written_back, line_is_read}
-use Rattle.lic_phrases.proofs.words.reader.Reader.read_phrases.Goals as goal
+use Rattle.lic_phrases.proofs.words.reader.WordsReader.read_phrases.Goals as goal
 
 phrase_at : (line : List ℕ) (k : ℕ) (phrase : List ℕ)
     → (k < length (slice_split (λ b. b == 0x2C) line)) × (phrase ≡ get_or (slice_split (λ b. b == 0x2C) line) k phrase)

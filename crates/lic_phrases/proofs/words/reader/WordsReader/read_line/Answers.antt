@@ -5,7 +5,7 @@ use Rattle.lic_phrases.specs.Listed.{HasFault, HasNoFault, phrases_in}
 use Rattle.lic_phrases.specs.WordLists.{is_skipped, phrases_of_line, split_phrases}
 use Rattle.lic_phrases.specs.WordReading.{HasRead}
 use Rattle.lic_phrases.proofs.ListedLemmas.{line_is_read}
-use Rattle.lic_phrases.proofs.words.reader.Reader.read_line.Goals as goal
+use Rattle.lic_phrases.proofs.words.reader.WordsReader.read_line.Goals as goal
 
 skipped : (line : List ℕ) (b : Bool) → b ≡ is_skipped (chars line) → b ≡ true → phrases_of_line line ≡ []
 skipped line b is skips = ap (λ s. if s then [] else split_phrases line) (sym is ∙ skips)

@@ -7,7 +7,7 @@ use Rattle.lic_elements.specs.Views.{element_of}
 use Rattle.lic_markup.specs.Views.{state_of}
 use Rattle.lic_elements.proofs.FaultLemmas.{Fails-reported}
 use Rattle.lic_markup.proofs.PartTextLemmas.{meet_variable-texts, meet_end-texts}
-use Rattle.lic_markup.proofs.reader.Reader.meet.Goals as goal
+use Rattle.lic_markup.proofs.reader.TemplateReader.meet.Goals as goal
 
 pub returns-in-Refused-clause-state : goal.returns-in-Refused-clause-state
 unfolding meet
