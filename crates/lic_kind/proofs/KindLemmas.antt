@@ -1,7 +1,7 @@
 -- The tables have no character in common, so each alone decides its kind.
 use Rattle.std.proofs.Common.{◌≡◌, ℕ, zero, suc, ◌+◌, ◌-◌, ◌<◌, ◌≤◌, Bool, true, false, not, ◌&&◌, ◌||◌, if◌then◌else◌, List, [], ◌∷◌, inl, inr, refl, sym, ap, ◌∙◌, arith}
 use Rattle.std.proofs.lemmas.Bool.{true≢false, and_parts, or_cases, not-true, cases_eq, eqb-true, leb-true, cases_Bool}
-use Rattle.std.specs.Char.{is_whitespace, is_ascii_alphanumeric, is_ascii_punctuation}
+use Rattle.std.specs.Char.{is_whitespace, is_ascii_alphanumeric}
 use Rattle.lic_kind.specs.declared.Kind.{Kind}
 use Rattle.lic_kind.specs.declared.Kind.TheVariants.{Blank, Dropped, Mark, Word}
 use Rattle.lic_kind.specs.Kinds.{Entry, one, range, is_entry, is_listed, dropped, ascii_punctuation, dashes, quotes, bullets, box_drawing, other_marks, is_dropped, is_dash, is_quote, is_bullet, is_box_drawing, is_other_mark, is_mark, kind_of, is_word_kind, is_mark_kind}
@@ -225,10 +225,3 @@ kind_of-alphanumeric c ascii is =
     is_word_kind-true (kind_of c)
     (implied (is_ascii_alphanumeric c) _
     (each_below 128 (λ d. not (is_ascii_alphanumeric d) || is_word_kind (kind_of d)) c refl ascii) is)
-
-pub kind_of-punctuation : (c : ℕ) → c < 128 → is_ascii_punctuation c ≡ true → kind_of c ≡ Mark
-unfolding kind_of
-kind_of-punctuation c ascii is =
-    is_mark_kind-true (kind_of c)
-    (implied (is_ascii_punctuation c) _
-    (each_below 128 (λ d. not (is_ascii_punctuation d) || is_mark_kind (kind_of d)) c refl ascii) is)

@@ -1,10 +1,10 @@
 -- The rules of a file, line by line.
-use Rattle.std.proofs.Common.{◌≡◌, ℕ, ◌+◌, Bool, true, List, [], ◌∷◌, ◌++◌, Some, refl, ap, ◌∙◌, append-nil, arith}
+use Rattle.std.proofs.Common.{◌≡◌, ℕ, ◌+◌, Bool, true, List, [], ◌∷◌, ◌++◌, refl, ap, ◌∙◌, append-nil, arith}
 use Rattle.std.specs.List.{flat_map}
 use Rattle.std.proofs.lemmas.List.Concat.{flat_map-append}
-use Rattle.lic_kind.specs.LineRules.{LineRules, RuleKind, Lead, LeadSpace, Tail, TailSpace, TailRepeat}
-use Rattle.lic_kind.specs.RuleFiles.{Line, comment, text, items, separators, text_in, items_in, separators_in, last_or, rules_in, text_count, texts_before}
-use Rattle.lic_kind.specs.RuleReading.{with_text, with_line}
+use Rattle.lic_kind.specs.LineRules.{LineRules, Lead, LeadSpace, Tail, TailSpace, TailRepeat}
+use Rattle.lic_kind.specs.RuleFiles.{Line, items, separators, text_in, items_in, separators_in, last_or, rules_in, text_count, texts_before}
+use Rattle.lic_kind.specs.RuleReading.{with_line}
 
 -- rules with nothing added
 same_rules : (rules : LineRules) → record {
@@ -24,21 +24,8 @@ same_rules rules = λ i. record rules {
   tail_repeat = append-nil rules.tail_repeat i;
 }
 
-pub with_comment : (rules : LineRules) → with_line comment rules ≡ rules
-with_comment rules = same_rules rules
-
 pub with_items : (on : Bool) (rules : LineRules) → with_line (items on) rules ≡ record rules { items = on }
 with_items on rules = ap (λ (r : LineRules). record r { items = on }) (same_rules rules)
-
-pub with_separators : (on : Bool) (rules : LineRules) → with_line (separators on) rules ≡ record rules { separators = on }
-with_separators on rules = ap (λ (r : LineRules). record r { separators = on }) (same_rules rules)
-
-pub with_text_line : (kind : RuleKind) (cs : List ℕ) (rules : LineRules) → with_line (text kind (Some cs)) rules ≡ with_text kind cs rules
-with_text_line Lead cs rules = ap (λ (r : LineRules). record r { lead = rules.lead ++ cs ∷ [] }) (same_rules rules)
-with_text_line LeadSpace cs rules = ap (λ (r : LineRules). record r { lead_space = rules.lead_space ++ cs ∷ [] }) (same_rules rules)
-with_text_line Tail cs rules = ap (λ (r : LineRules). record r { tail = rules.tail ++ cs ∷ [] }) (same_rules rules)
-with_text_line TailSpace cs rules = ap (λ (r : LineRules). record r { tail_space = rules.tail_space ++ cs ∷ [] }) (same_rules rules)
-with_text_line TailRepeat cs rules = ap (λ (r : LineRules). record r { tail_repeat = rules.tail_repeat ++ cs ∷ [] }) (same_rules rules)
 
 one_more : {A : Type 0} (f : Line → List A) (lines : List Line) (line : Line) → flat_map f (lines ++ line ∷ []) ≡ flat_map f lines ++ f line
 one_more f lines line = flat_map-append f lines (line ∷ []) ∙ ap (λ l. flat_map f lines ++ l) (append-nil (f line))

@@ -68,6 +68,15 @@ pub struct Rules {
     ghost tail_repeat_known: { AreEndsKnown end 52 (texts_of tail_repeat) },
 }
 
+/// The first bit of the texts of a lead with white space after them; those of a lead have the bits from 0 on.
+const LEAD_SPACE_BIT: usize = 48;
+
+/// The first bit of the texts of a tail with white space before them; those of a tail have the bits from 0 on.
+const TAIL_SPACE_BIT: usize = 40;
+
+/// The first bit of the texts of a tail that repeat their first character.
+const TAIL_REPEAT_BIT: usize = 52;
+
 /// The texts of each kind.
 struct AllTexts {
     lead: Texts,
@@ -97,11 +106,11 @@ impl Rules {
         } = texts;
         let mut front = Beginnings::none();
         front.add_fronts(0, &lead);
-        front.add_fronts(48, &lead_space);
+        front.add_fronts(LEAD_SPACE_BIT, &lead_space);
         let mut end = Beginnings::none();
         end.add_ends(0, &tail);
-        end.add_ends(40, &tail_space);
-        end.add_ends(52, &tail_repeat);
+        end.add_ends(TAIL_SPACE_BIT, &tail_space);
+        end.add_ends(TAIL_REPEAT_BIT, &tail_repeat);
         Rules {
             lead,
             lead_space,

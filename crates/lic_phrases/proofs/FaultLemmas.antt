@@ -1,10 +1,9 @@
 -- The first fault of a list, phrase by phrase and line by line.
-use Rattle.std.proofs.Common.{◌≡◌, ◌⊎◌, inl, inr, ℕ, ◌+◌, ◌<◌, ◌≤◌, true, false, cond, nat_le, List, [], ◌++◌, length, get_or, drop, map, Option, Some, None, refl, sym, ap, ◌∙◌, arith, drop-cons, add-one}
-use Rattle.std.proofs.lemmas.Bool.Decides.{nat_tests}
+use Rattle.std.proofs.Common.{◌≡◌, ◌⊎◌, inl, inr, ℕ, ◌+◌, ◌<◌, ◌≤◌, List, [], ◌++◌, length, get_or, drop, map, Option, Some, None, refl, sym, ap, ◌∙◌, drop-cons, add-one}
 use Rattle.lic_phrases.specs.declared.fault.WordsCause.{WordsCause}
 use Rattle.lic_phrases.specs.declared.fault.WordsCause.TheVariants.{EmptyPhrase, TooManyPhrases, PhraseTooLong, OutOfMemory}
 use Rattle.lic_phrases.specs.declared.fault.WordsFault.{WordsFault}
-use Rattle.lic_phrases.specs.WordLists.{fault_of_phrase, fault_of, fault_or, fault_from, fault_at, located, out_of_memory}
+use Rattle.lic_phrases.specs.WordLists.{fault_of, fault_or, fault_from, fault_at, located, out_of_memory}
 use Rattle.lic_phrases.specs.Listed.{HasFault, HasNoFault}
 
 abbrev on_line : ℕ → List (List (List ℕ)) → List (ℕ × List (List ℕ))
@@ -28,17 +27,6 @@ located-drop lines k number line within is =
     ap (located number) (drop-cons lines k [] within)
     ∙ ap (λ n. on_line number (get_or lines k []) ++ located (number + 1) (drop n lines)) (sym (add-one k))
     ∙ ap (λ l. on_line number l ++ located (number + 1) (drop (k + 1) lines)) (sym is)
-
--- a phrase within the number has the fault that it has by itself
-pub fault_of-few : (before : ℕ) (phrase : List (List ℕ)) → before < 4096 → fault_of before phrase ≡ fault_of_phrase phrase
-fault_of-few before phrase few =
-    let no : nat_le 4096 before ≡ false = grind (arith, nat_tests) in
-    ap (λ b. cond b (Some TooManyPhrases) (fault_of_phrase phrase)) no
-
-pub fault_of-many : (before : ℕ) (phrase : List (List ℕ)) → 4096 ≤ before → fault_of before phrase ≡ Some TooManyPhrases
-fault_of-many before phrase many =
-    let yes : nat_le 4096 before ≡ true = grind (arith, nat_tests) in
-    ap (λ b. cond b (Some TooManyPhrases) (fault_of_phrase phrase)) yes
 
 -- what is reported for a cause
 pub fault_at-reported : (number : ℕ) (cause : WordsCause) (first : Option WordsFault)

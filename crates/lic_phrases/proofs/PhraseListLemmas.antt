@@ -16,9 +16,6 @@ use Rattle.lic_phrases.proofs.PhraseKeyLemmas.{same_keys}
 abbrev pub needed_for : List ℕ → Phrase → ℕ
 needed_for text p = if begins_with text p.texts then length p.texts else 0
 
-longest_with : List Phrase → List ℕ → List (List ℕ) → ℕ
-longest_with words text texts = if begins_with text texts then max (length texts) (longest_from words text) else longest_from words text
-
 -- one more phrase makes the longest no longer than itself
 pub longest_from-with_added : (words : List Phrase) (p : Phrase) (text : List ℕ)
     → longest_from (with_added words p) text ≤ max (longest_from words text) (needed_for text p)

@@ -114,14 +114,6 @@ is_cut old new limit c b = elim (cases_lt b limit) [
       gone ∙ sym (and-false (has old b)) ∙ ap (λ t. has old b && t) (sym (le-ltb b limit high))
 ]
 
-pub not_cut : (row : List ℕ) (limit : ℕ) → length row ≤ limit / 64 → (b : ℕ) → has row b ≡ (has row b && nat_lt b limit)
-not_cut row limit past b = elim (cases_lt b limit) [
-  | inl low ↦ sym (and-true (has row b)) ∙ ap (λ t. has row b && t) (sym (lt-ltb b limit low))
-  | inr high ↦
-      unset_in_zero row b (get_or_past row (b / 64) 0 (omega arith))
-      ∙ sym (and-false (has row b)) ∙ ap (λ t. has row b && t) (sym (le-ltb b limit high))
-]
-
 -- both steps of a shift
 pub moved_up : (old mid new : List ℕ) (limit : ℕ) → limit ≤ 64 * length old
     → ((b : ℕ) → suc b < 64 * length old → has mid (suc b) ≡ has old b) → ((b : ℕ) → has new b ≡ (has mid b && nat_lt b limit))

@@ -51,10 +51,3 @@ module _ (f : ℕ → ℕ → ℕ) (old from new : List ℕ) (at : ℕ) (done : 
         get_or_past new k 0 n ∙ sym none ∙ ap (λ x. f x 0) (sym (get_or_past old k 0 (omega arith)))
         ∙ ap (λ y. f (get_or old k 0) y) (sym (get_or_past from k 0 (omega arith)))
   ]
-
--- in one word
-pub or_here : (row other : List ℕ) (at b : ℕ) → b / 64 ≡ at
-    → (bit_at (bit_or (get_or row at 0) (get_or other at 0)) (b % 64) == 1) ≡ (has row b || has other b)
-or_here row other at b word =
-    rw (← word) (ap (λ n. n == 1) (bit_at_or (get_or row (b / 64) 0) (get_or other (b / 64) 0) (b % 64))
-    ∙ either (bit_at (get_or row (b / 64) 0) (b % 64)) (bit_at (get_or other (b / 64) 0) (b % 64)) (bit_at-lt _ (b % 64)) (bit_at-lt _ (b % 64)))

@@ -10,7 +10,7 @@ profile_file : List ℕ
 profile_file =
     codes "# The line rules that licscan follows where it is given no file. A file takes the place of all of them.\n"
     ++ codes "\n"
-    ++ codes "# Comment signs at the front of a line.\n"
+    ++ codes "# Comment marks at the beginning of a line.\n"
     ++ codes "lead //\n"
     ++ codes "lead ///\n"
     ++ codes "lead /*\n"
@@ -32,7 +32,7 @@ profile_file =
     ++ codes "lead .\\\"\n"
     ++ codes "lead '\\\"\n"
     ++ codes "\n"
-    ++ codes "# Words at the front of a line that begin a comment, with white space following them.\n"
+    ++ codes "# Words at the beginning of a line that mark a comment, with white space following them.\n"
     ++ codes "lead-space dnl\n"
     ++ codes "lead-space REM\n"
     ++ codes "\n"
@@ -49,7 +49,7 @@ profile_file =
     ++ codes "tail-space #\n"
     ++ codes "tail-space |\n"
     ++ codes "\n"
-    ++ codes "# List items are taken, and rows of one sign are separators.\n"
+    ++ codes "# List items are taken, and rows of one mark are separators.\n"
     ++ codes "items on\n"
     ++ codes "separators on\n"
 
