@@ -2,9 +2,7 @@
 #![tactic(auto)]
 
 #[cfg(test)]
-mod bundles;
-#[cfg(test)]
-mod filters;
+mod automata;
 #[cfg(test)]
 mod finder;
 #[cfg(test)]
@@ -12,20 +10,12 @@ mod keys;
 #[cfg(test)]
 mod letters;
 #[cfg(test)]
-mod literals;
+mod lists;
 #[cfg(test)]
 mod profile;
-#[cfg(test)]
-mod rows;
-#[cfg(test)]
-mod runs;
 #[cfg(test)]
 mod sets;
 #[cfg(test)]
 mod shown;
-#[cfg(test)]
-mod spans;
-#[cfg(test)]
-mod trees;
 #[cfg(test)]
 mod values;

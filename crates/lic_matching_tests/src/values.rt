@@ -67,8 +67,7 @@ const TWO: &str =
 
 const BEFORE: &str = r#"<<var;name="c";original="";match=".{0,5000}">> foo bar"#;
 
-const LAST: &str =
-    r#"q<<beginOptional>> b<<endOptional>> <<var;name="v";original="";match=".*">>"#;
+const LAST: &str = r#"q<<beginOptional>> b<<endOptional>> <<var;name="v";original="";match=".*">>"#;
 
 const ABSENT: &str =
     r#"q <<beginOptional>><<var;name="w";original="";match="z">><<endOptional>><<var;name="v";original="";match=".*">>"#;

@@ -1,7 +1,7 @@
 -- Each span so far ends no earlier than it begins, and before the greatest place.
 use Rattle.std.proofs.Common.{◌<◌, ◌≤◌}
 use Rattle.std.specs.List.{All}
-use Rattle.lic_matching_tests.proofs.spans.spans.Given as goal
+use Rattle.lic_matching_tests.proofs.lists.spans.spans.Given as goal
 
 abbrev pub invariant-loop-one : goal.invariant-loop-one
 invariant-loop-one l = record {

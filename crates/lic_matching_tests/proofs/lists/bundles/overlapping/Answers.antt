@@ -5,7 +5,7 @@ use Rattle.std.specs.List.{All}
 use Rattle.lic_set.specs.declared.triple.Triple.{Triple}
 use Rattle.lic_bundles.specs.declared.bundle.Bundle.{Bundle}
 use Rattle.lic_bundles.specs.Bundles.{AreApart, IsOf}
-use Rattle.lic_matching_tests.proofs.bundles.overlapping.Goals as goal
+use Rattle.lic_matching_tests.proofs.lists.bundles.overlapping.Goals as goal
 
 of_another : (b c : Bundle) → b.template < c.template → (t : Triple) → IsOf b t → ¬ (IsOf c t)
 of_another b c less t of also = omega (arith, of.template, also.template)

@@ -2,7 +2,7 @@ use Rattle.std.proofs.Common.{◌≡◌, ◌+◌, ◌==◌, ◌∷◌, length, g
 use Rattle.std.proofs.lemmas.List.{length-append}
 use Rattle.std.proofs.lemmas.Bool.Decides.{nat_tests}
 use Rattle.std.proofs.Math.Seq.{get_or-append_seam}
-use Rattle.lic_matching_tests.proofs.runs.is_plain.Goals as goal
+use Rattle.lic_matching_tests.proofs.automata.runs.is_plain.Goals as goal
 
 pub returns : goal.returns
 returns c = λ h.

@@ -2,7 +2,7 @@ use Rattle.std.proofs.Common.{sym, subst}
 use Rattle.std.proofs.lemmas.List.Quantifiers.{all_pairs_push}
 use Rattle.lic_set.specs.declared.triple.Triple.{Triple}
 use Rattle.lic_bundles.specs.Bundles.{AreApart, IsOf}
-use Rattle.lic_matching_tests.proofs.bundles.bundles.Goals as goal
+use Rattle.lic_matching_tests.proofs.lists.bundles.bundles.Goals as goal
 
 pub loop-one-preserved : goal.loop-one-preserved
 loop-one-preserved c =
