@@ -9,12 +9,12 @@ use Rattle.lic_ere.specs.Trees.{Tree, repeat, units_tree, choice_tree, letters_t
 use Rattle.lic_ere.specs.Faults.{◌>>=◌}
 use Rattle.lic_ere.specs.Lexemes.{Lexeme, unit, sign, opening, closing, bar, anchor, Lexemes}
 use Rattle.lic_ere.specs.Reading as reading
-use Rattle.lic_ere.specs.Reading.{LastUnit, Level, new_level, units, with_unit, with_alternative, level_tree, State, max_depth, meet, finish, read_on, start, reading}
+use Rattle.lic_ere.specs.Reading.{LastUnit, GroupLevel, new_level, units, with_unit, with_alternative, level_tree, State, max_depth, meet, finish, read_on, start, reading}
 use Rattle.lic_ere.specs.Grammar.{IsUnit, plain, group, closes_nothing, IsSequence, no_unit, once, repeated, IsChoice, only, or, without_anchors, IsPattern}
 use Rattle.lic_ere.proofs.LexemeSpelling.{are_read}
 
 -- lexemes read from a level on
-abbrev pub run : Level → List Level → List (ℕ × Lexeme) → Result Tree EreFault
+abbrev pub run : GroupLevel → List GroupLevel → List (ℕ × Lexeme) → Result Tree EreFault
 run level outer ls = read_on (record { level = level; outer = outer }) ls None
 
 after_meet : (r : Result State EreFault) (ls ms : List (ℕ × Lexeme))
@@ -24,20 +24,20 @@ after_meet (Ok s) ls ms same = same s
 after_meet (Err e) ls ms same = refl
 
 -- the units of a sequence were read
-pub record RanSequence (level : Level) (outer : List Level) (ls rest : List (ℕ × Lexeme)) (ts : List Tree) : Type 0 where
-  pub then : Level
+pub record RanSequence (level : GroupLevel) (outer : List GroupLevel) (ls rest : List (ℕ × Lexeme)) (ts : List Tree) : Type 0 where
+  pub then : GroupLevel
   pub runs : run level outer ls ≡ run then outer rest
   pub alternatives : then.alternatives ≡ level.alternatives
   pub units : units then ≡ units level ++ ts
 
 -- the rest of a level was read
-pub record RanChoice (level : Level) (outer : List Level) (ls rest : List (ℕ × Lexeme)) (ts : List Tree) : Type 0 where
-  pub then : Level
+pub record RanChoice (level : GroupLevel) (outer : List GroupLevel) (ls rest : List (ℕ × Lexeme)) (ts : List Tree) : Type 0 where
+  pub then : GroupLevel
   pub runs : run level outer ls ≡ run then outer rest
   pub tree : level_tree then ≡ choice_tree (level.alternatives ++ ts)
 
 abbrev UnitRuns : ℕ → List (ℕ × Lexeme) → List (ℕ × Lexeme) → Tree → Type 0
-UnitRuns depth ls rest t = (level : Level) (outer : List Level) → length outer ≡ depth → run level outer ls ≡ run (with_unit t level) outer rest
+UnitRuns depth ls rest t = (level : GroupLevel) (outer : List GroupLevel) → length outer ≡ depth → run level outer ls ≡ run (with_unit t level) outer rest
 
 plain_runs : (depth offset : ℕ) (t : Tree) (rest : List (ℕ × Lexeme)) → UnitRuns depth ((offset, unit t) ∷ rest) rest t
 unfolding read_on meet
@@ -48,29 +48,29 @@ unfolding read_on meet
 closing_runs offset rest level [] e = refl
 closing_runs offset rest level (o ∷ outer) e = absurd (omega arith)
 
-opening_runs : (offset : ℕ) (ls : List (ℕ × Lexeme)) (level : Level) (outer : List Level) → length outer < 64
+opening_runs : (offset : ℕ) (ls : List (ℕ × Lexeme)) (level : GroupLevel) (outer : List GroupLevel) → length outer < 64
     → run level outer ((offset, opening) ∷ ls) ≡ run (new_level offset) (level ∷ outer) ls
 unfolding read_on meet
 opening_runs offset ls level outer lt = let e : ltb (length outer) 64 ≡ true = grind (arith, nat_tests) in rw e refl
 
-closed_runs : (offset : ℕ) (rest : List (ℕ × Lexeme)) (level o : Level) (outer : List Level)
+closed_runs : (offset : ℕ) (rest : List (ℕ × Lexeme)) (level o : GroupLevel) (outer : List GroupLevel)
     → run level (o ∷ outer) ((offset, closing) ∷ rest) ≡ run (with_unit (level_tree level) o) outer rest
 unfolding read_on meet
 closed_runs offset rest level o outer = refl
 
-bar_runs : (offset : ℕ) (rest : List (ℕ × Lexeme)) (level : Level) (outer : List Level)
+bar_runs : (offset : ℕ) (rest : List (ℕ × Lexeme)) (level : GroupLevel) (outer : List GroupLevel)
     → run level outer ((offset, bar) ∷ rest) ≡ run (with_alternative level) outer rest
 unfolding read_on meet
 bar_runs offset rest level outer = refl
 
-sign_runs : (offset : ℕ) (b : Bounds) (t : Tree) (rest : List (ℕ × Lexeme)) (level : Level) (outer : List Level)
+sign_runs : (offset : ℕ) (b : Bounds) (t : Tree) (rest : List (ℕ × Lexeme)) (level : GroupLevel) (outer : List GroupLevel)
     → run (with_unit t level) outer ((offset, sign (Some b)) ∷ rest)
     ≡ run (record (with_unit t level) { last = reading.repeated (repeat t b.min b.max) }) outer rest
 unfolding read_on meet
 sign_runs offset b t rest level outer = refl
 
 group_runs : (depth offset end : ℕ) (ls rest : List (ℕ × Lexeme)) (ts : List Tree) → depth < max_depth
-    → ((level : Level) (outer : List Level) → length outer ≡ suc depth → units level ≡ [] → RanChoice level outer ls ((end, closing) ∷ rest) ts)
+    → ((level : GroupLevel) (outer : List GroupLevel) → length outer ≡ suc depth → units level ≡ [] → RanChoice level outer ls ((end, closing) ∷ rest) ts)
     → UnitRuns depth ((offset, opening) ∷ ls) rest (choice_tree ts)
 group_runs depth offset end ls rest ts lt inner level outer e =
     let ran = inner (new_level offset) (level ∷ outer) (omega arith) refl in
@@ -79,7 +79,7 @@ group_runs depth offset end ls rest ts lt inner level outer e =
     ∙ closed_runs end rest ran.then level outer
     ∙ ap (λ t. run (with_unit t level) outer rest) ran.tree
 
-only_runs : (level : Level) (outer : List Level) (ls rest : List (ℕ × Lexeme)) (ts : List Tree) → units level ≡ []
+only_runs : (level : GroupLevel) (outer : List GroupLevel) (ls rest : List (ℕ × Lexeme)) (ts : List Tree) → units level ≡ []
     → RanSequence level outer ls rest ts → RanChoice level outer ls rest (units_tree ts ∷ [])
 only_runs level outer ls rest ts fresh ran =
     record {
@@ -88,7 +88,7 @@ only_runs level outer ls rest ts fresh ran =
       tree = λ i. choice_tree (ran.alternatives i ++ units_tree ((ran.units ∙ ap (λ us. us ++ ts) fresh) i) ∷ []);
     }
 
-or_runs : (level : Level) (outer : List Level) (ls more rest : List (ℕ × Lexeme)) (offset : ℕ) (ts us : List Tree)
+or_runs : (level : GroupLevel) (outer : List GroupLevel) (ls more rest : List (ℕ × Lexeme)) (offset : ℕ) (ts us : List Tree)
     → units level ≡ [] → (sequence : RanSequence level outer ls ((offset, bar) ∷ more) ts)
     → RanChoice (with_alternative sequence.then) outer more rest us → RanChoice level outer ls rest (units_tree ts ∷ us)
 or_runs level outer ls more rest offset ts us fresh sequence others =
@@ -108,7 +108,7 @@ mutual
   unit_runs (closes_nothing {offset = p} {rest = r}) level outer e = closing_runs p r level outer e
 
   sequence_runs : {depth : ℕ} {ls rest : List (ℕ × Lexeme)} {ts : List Tree} → IsSequence depth ls rest ts
-      → (level : Level) (outer : List Level) → length outer ≡ depth → RanSequence level outer ls rest ts
+      → (level : GroupLevel) (outer : List GroupLevel) → length outer ≡ depth → RanSequence level outer ls rest ts
   sequence_runs no_unit level outer e = record { then = level; runs = refl; alternatives = refl; units = sym (append-nil (units level)) }
   sequence_runs (once {t = t} {ts = ts} first others) level outer e =
       let ran = sequence_runs others (with_unit t level) outer e in
@@ -131,7 +131,7 @@ mutual
       }
 
   choice_runs : {depth : ℕ} {ls rest : List (ℕ × Lexeme)} {ts : List Tree} → IsChoice depth ls rest ts
-      → (level : Level) (outer : List Level) → length outer ≡ depth → units level ≡ []
+      → (level : GroupLevel) (outer : List GroupLevel) → length outer ≡ depth → units level ≡ []
       → RanChoice level outer ls rest ts
   choice_runs (only {ls = ls} {rest = rest} {ts = ts} sequence) level outer e fresh = only_runs level outer ls rest ts fresh (sequence_runs sequence level outer e)
   choice_runs (or {offset = p} {ls = ls} {more = more} {rest = rest} {ts = ts} {us = us} sequence others) level outer e fresh =

@@ -14,7 +14,7 @@ use Rattle.lic_ere.specs.Lexemes.{Lexeme, unit, sign, opening, closing, bar, anc
 use Rattle.lic_ere.specs.Spelling.{IsLexeme}
 use Rattle.lic_ere.specs.Grammar.{without_anchors}
 use Rattle.lic_ere.specs.Reading as reading
-use Rattle.lic_ere.specs.Reading.{LastUnit, Level, new_level, with_unit, with_alternative, level_tree, repeat_last, with_sign, State, max_depth, meet, finish, read_on, start, reading}
+use Rattle.lic_ere.specs.Reading.{LastUnit, GroupLevel, new_level, with_unit, with_alternative, level_tree, repeat_last, with_sign, State, max_depth, meet, finish, read_on, start, reading}
 use Rattle.lic_ere.specs.FirstFaults as faults
 use Rattle.lic_ere.specs.FirstFaults.{EndInNothing, EndInSign, EndInUnit, AreWhole, AreOpen, MayFollow, MayNotFollow, AllMayFollow, BeginWith, IsNoLexeme, IsFaultOf}
 use Rattle.lic_ere.proofs.FaultSpelled.{same_fault, not_failed, Ends, spelled}
@@ -56,19 +56,19 @@ EndIn (reading.single t) ls = EndInUnit ls
 EndIn (reading.repeated t) ls = EndInSign ls
 
 -- The innermost open group begins where its level says, and so do those round it.
-abbrev Open : List (ℕ × Lexeme) → Level → List Level → Type 0
+abbrev Open : List (ℕ × Lexeme) → GroupLevel → List GroupLevel → Type 0
 Open ls level [] = AreOpen ls 0
 Open ls level (o ∷ outer) =
     (before : List (ℕ × Lexeme)) × (after : List (ℕ × Lexeme)) × (ls ≡ before ++ (level.offset, opening) ∷ after)
     × AreWhole after × Open before o outer
 
-open-depth : (ls : List (ℕ × Lexeme)) (level : Level) (outer : List Level) → Open ls level outer → AreOpen ls (length outer)
+open-depth : (ls : List (ℕ × Lexeme)) (level : GroupLevel) (outer : List GroupLevel) → Open ls level outer → AreOpen ls (length outer)
 open-depth ls level [] h = h
 open-depth ls level (o ∷ outer) h =
     subst (λ l. AreOpen l (suc (length outer))) (sym h.2) (faults.one_more level.offset (open-depth h.0 o outer h.4) h.3)
 
 -- lexemes that leave as many groups open
-open-on : (ls more : List (ℕ × Lexeme)) (l m : Level) (outer : List Level) → m.offset ≡ l.offset → AreWhole more
+open-on : (ls more : List (ℕ × Lexeme)) (l m : GroupLevel) (outer : List GroupLevel) → m.offset ≡ l.offset → AreWhole more
     → Open ls l outer → Open (ls ++ more) m outer
 open-on ls more l m [] same w h = open-append more h w
 open-on ls more l m (o ∷ outer) same w h = (
@@ -81,7 +81,7 @@ open-on ls more l m (o ∷ outer) same w h = (
 )
 
 -- the end of the innermost group
-open-end : (ls : List (ℕ × Lexeme)) (offset : ℕ) (level o m : Level) (outer : List Level) → m.offset ≡ o.offset
+open-end : (ls : List (ℕ × Lexeme)) (offset : ℕ) (level o m : GroupLevel) (outer : List GroupLevel) → m.offset ≡ o.offset
     → Open ls level (o ∷ outer) → Open (ls ++ (offset, closing) ∷ []) m outer
 open-end ls offset level o m outer same h =
     let more : List (ℕ × Lexeme) = (level.offset, opening) ∷ (h.1 ++ (offset, closing) ∷ []) in
@@ -132,7 +132,7 @@ module _ (fault : Option EreFault) (e : EreFault) where
   taken before ls x s others plain so_far is =
       fault_back before ls x fault e (others (before ++ x ∷ []) s (subst (λ l. SoFar l s) (sym plain) so_far) is)
 
-  end_by : (before : List (ℕ × Lexeme)) (s : State) (os : List Level) → AllMayFollow (without_anchors before)
+  end_by : (before : List (ℕ × Lexeme)) (s : State) (os : List GroupLevel) → AllMayFollow (without_anchors before)
       → Open (without_anchors before) s.level os → fault ≡ None → finish s.level os ≡ Err e → Fault before [] fault e
   end_by before s [] follow groups none is = not_failed (level_tree s.level) e is
   end_by before s (o ∷ os) follow groups none is =
@@ -152,7 +152,7 @@ module _ (fault : Option EreFault) (e : EreFault) where
       }) is
 
   sign_by : (before ls : List (ℕ × Lexeme)) (offset : ℕ) (b : Option Bounds) (from : ℕ) (alternatives units : List Tree)
-      (last : LastUnit) (outer : List Level) → Faulty ls
+      (last : LastUnit) (outer : List GroupLevel) → Faulty ls
       → SoFar (without_anchors before) (record { level = record { offset = from; alternatives = alternatives; before = units; last = last }; outer = outer })
       → read_on (record { level = record { offset = from; alternatives = alternatives; before = units; last = last }; outer = outer })
       ((offset, sign b) ∷ ls) fault ≡ Err e → Fault before ((offset, sign b) ∷ ls) fault e
@@ -164,8 +164,8 @@ module _ (fault : Option EreFault) (e : EreFault) where
   sign_by before ls offset None from alternatives units (reading.single t) outer others so_far is =
       refused before ls offset (sign None) BadBound fault e so_far.follow (faults.bad_bound so_far.last) is
   sign_by before ls offset (Some b) from alternatives units (reading.single t) outer others so_far is =
-      let old : Level = record { offset = from; alternatives = alternatives; before = units; last = reading.single t } in
-      let now : Level = record { offset = from; alternatives = alternatives; before = units; last = reading.repeated (repeat t b.min b.max) } in
+      let old : GroupLevel = record { offset = from; alternatives = alternatives; before = units; last = reading.single t } in
+      let now : GroupLevel = record { offset = from; alternatives = alternatives; before = units; last = reading.repeated (repeat t b.min b.max) } in
       taken before ls (offset, sign (Some b)) (record { level = now; outer = outer }) others
       (without_anchors-append before ((offset, sign (Some b)) ∷ []))
       (record {
@@ -192,7 +192,7 @@ module _ (fault : Option EreFault) (e : EreFault) where
         groups = (without_anchors before, [], refl, faults.no_lexeme, so_far.groups);
       }) is
 
-  closing_by : (before ls : List (ℕ × Lexeme)) (offset : ℕ) (level : Level) (outer : List Level) → Faulty ls
+  closing_by : (before ls : List (ℕ × Lexeme)) (offset : ℕ) (level : GroupLevel) (outer : List GroupLevel) → Faulty ls
       → SoFar (without_anchors before) (record { level = level; outer = outer })
       → read_on (record { level = level; outer = outer }) ((offset, closing) ∷ ls) fault ≡ Err e
       → Fault before ((offset, closing) ∷ ls) fault e

@@ -12,7 +12,7 @@ use Rattle.lic_ere.specs.Faults.{fault_at, ◌>>=◌}
 use Rattle.lic_ere.specs.Lexemes.{Lexeme, unit, sign, opening, closing, bar, anchor, Lexemes, lexemes}
 use Rattle.lic_ere.specs.Grammar.{without_anchors}
 use Rattle.lic_ere.specs.Reading as reading
-use Rattle.lic_ere.specs.Reading.{LastUnit, Level, new_level, with_unit, with_alternative, level_tree, State, max_depth, meet, finish, read_on, start, reading}
+use Rattle.lic_ere.specs.Reading.{LastUnit, GroupLevel, new_level, with_unit, with_alternative, level_tree, State, max_depth, meet, finish, read_on, start, reading}
 use Rattle.lic_ere.specs.FirstFaults as faults
 use Rattle.lic_ere.specs.FirstFaults.{EndInNothing, EndInSign, EndInUnit, AreWhole, AreOpen, MayFollow, MayNotFollow, AllMayFollow, IsFaultOf}
 use Rattle.lic_ere.proofs.FaultRead.{before_these, none_read, one_read, begin_read}
@@ -106,15 +106,15 @@ open-offsets (faults.stray {before = before} {after = after} offset o w) =
 open-offsets (faults.one_more {before = before} {after = after} offset o w) =
     ap length (inner-offsets before after offset w) ∙ ap (λ n. suc n) (open-offsets o)
 
-abbrev offsets : Level → List Level → List ℕ
+abbrev offsets : GroupLevel → List GroupLevel → List ℕ
 offsets level [] = []
 offsets level (o ∷ outer) = level.offset ∷ offsets o outer
 
-offsets-length : (level : Level) (outer : List Level) → length (offsets level outer) ≡ length outer
+offsets-length : (level : GroupLevel) (outer : List GroupLevel) → length (offsets level outer) ≡ length outer
 offsets-length level [] = refl
 offsets-length level (o ∷ outer) = ap (λ n. suc n) (offsets-length o outer)
 
-offsets-same : (l m : Level) (outer : List Level) → l.offset ≡ m.offset → offsets l outer ≡ offsets m outer
+offsets-same : (l m : GroupLevel) (outer : List GroupLevel) → l.offset ≡ m.offset → offsets l outer ≡ offsets m outer
 offsets-same l m [] same = refl
 offsets-same l m (o ∷ outer) same = ap (λ p. p ∷ offsets o outer) same
 
@@ -154,7 +154,7 @@ module _ (before : List (ℕ × Lexeme)) (offset : ℕ) where
   after_bar s r =
       next bar s (record s { level = with_alternative s.level }) r refl (offsets-same s.level (with_alternative s.level) s.outer refl) (λ more fault. refl)
 
-  after_end : (level : Level) (outer : List Level) → Reached before (record { level = level; outer = outer }) → Next closing
+  after_end : (level : GroupLevel) (outer : List GroupLevel) → Reached before (record { level = level; outer = outer }) → Next closing
   unfolding read_on meet
   after_end level [] r =
       next closing (record { level = level; outer = [] }) (record { level = with_unit (letters_tree close_paren) level; outer = [] }) r refl refl (λ more fault. refl)
@@ -162,15 +162,15 @@ module _ (before : List (ℕ × Lexeme)) (offset : ℕ) where
       next closing (record { level = level; outer = o ∷ outer }) (record { level = with_unit (level_tree level) o; outer = outer }) r refl
       (offsets-same o (with_unit (level_tree level) o) outer refl) (λ more fault. refl)
 
-  after_sign : (b : Bounds) (from : ℕ) (alternatives units : List Tree) (last : LastUnit) (outer : List Level)
+  after_sign : (b : Bounds) (from : ℕ) (alternatives units : List Tree) (last : LastUnit) (outer : List GroupLevel)
       → Reached before (record { level = record { offset = from; alternatives = alternatives; before = units; last = last }; outer = outer })
       → one_unit ≡ unit_kind last → Next (sign (Some b))
   unfolding read_on meet
   after_sign b from alternatives units reading.no_unit outer r is = absurd cc
   after_sign b from alternatives units (reading.repeated t) outer r is = absurd cc
   after_sign b from alternatives units (reading.single t) outer r is =
-      let old : Level = record { offset = from; alternatives = alternatives; before = units; last = reading.single t } in
-      let now : Level = record { offset = from; alternatives = alternatives; before = units; last = reading.repeated (repeat t b.min b.max) } in
+      let old : GroupLevel = record { offset = from; alternatives = alternatives; before = units; last = reading.single t } in
+      let now : GroupLevel = record { offset = from; alternatives = alternatives; before = units; last = reading.repeated (repeat t b.min b.max) } in
       next (sign (Some b)) (record { level = old; outer = outer }) (record { level = now; outer = outer }) r refl (offsets-same old now outer refl) (λ more fault. refl)
 
   after_opening : (s : State) → Reached before s → length s.outer < max_depth → Next opening
@@ -225,7 +225,7 @@ module _ (offset : ℕ) (more : List (ℕ × Lexeme)) (fault : Option EreFault) 
   abbrev Refused : Lexeme → EreCause → State → Type 0
   Refused l cause s = read_on s ((offset, l) ∷ more) fault ≡ Err (fault_at offset cause)
 
-  nothing_refused : (b : Option Bounds) (from : ℕ) (alternatives units : List Tree) (last : LastUnit) (outer : List Level)
+  nothing_refused : (b : Option Bounds) (from : ℕ) (alternatives units : List Tree) (last : LastUnit) (outer : List GroupLevel)
       → nothing ≡ unit_kind last
       → Refused (sign b) NothingToRepeat (record { level = record { offset = from; alternatives = alternatives; before = units; last = last }; outer = outer })
   unfolding read_on meet
@@ -233,7 +233,7 @@ module _ (offset : ℕ) (more : List (ℕ × Lexeme)) (fault : Option EreFault) 
   nothing_refused b from alternatives units (reading.single t) outer is = absurd cc
   nothing_refused b from alternatives units (reading.repeated t) outer is = absurd cc
 
-  sign_refused : (b : Option Bounds) (from : ℕ) (alternatives units : List Tree) (last : LastUnit) (outer : List Level)
+  sign_refused : (b : Option Bounds) (from : ℕ) (alternatives units : List Tree) (last : LastUnit) (outer : List GroupLevel)
       → one_sign ≡ unit_kind last
       → Refused (sign b) TwoSigns (record { level = record { offset = from; alternatives = alternatives; before = units; last = last }; outer = outer })
   unfolding read_on meet
@@ -241,7 +241,7 @@ module _ (offset : ℕ) (more : List (ℕ × Lexeme)) (fault : Option EreFault) 
   sign_refused b from alternatives units (reading.single t) outer is = absurd cc
   sign_refused b from alternatives units (reading.repeated t) outer is = refl
 
-  bound_refused : (from : ℕ) (alternatives units : List Tree) (last : LastUnit) (outer : List Level)
+  bound_refused : (from : ℕ) (alternatives units : List Tree) (last : LastUnit) (outer : List GroupLevel)
       → one_unit ≡ unit_kind last
       → Refused (sign None) BadBound (record { level = record { offset = from; alternatives = alternatives; before = units; last = last }; outer = outer })
   unfolding read_on meet
@@ -265,7 +265,7 @@ module _ (offset : ℕ) (more : List (ℕ × Lexeme)) (fault : Option EreFault) 
       let many : max_depth ≤ length s.outer = omega (arith, same, deep) in
       depth_refused s many
 
-finish_open : (level : Level) (outer : List Level) (offset : ℕ) (ps : List ℕ) → offsets level outer ≡ offset ∷ ps
+finish_open : (level : GroupLevel) (outer : List GroupLevel) (offset : ℕ) (ps : List ℕ) → offsets level outer ≡ offset ∷ ps
     → finish level outer ≡ Err (fault_at offset GroupNotClosed)
 finish_open level [] offset ps e = absurd cc
 finish_open level (o ∷ outer) offset ps e = ap (λ (qs : List ℕ). elim qs [ [] ↦ Err (fault_at offset GroupNotClosed) | q ∷ more ↦ Err (fault_at q GroupNotClosed) ]) e

@@ -10,7 +10,7 @@ use Rattle.lic_ere.specs.Faults.{fault_at, ◌>>=◌}
 use Rattle.lic_ere.specs.Located.{located}
 use Rattle.lic_ere.specs.Lexemes.{Lexeme, unit, sign, opening, closing, bar, anchor, lexemes}
 use Rattle.lic_ere.specs.Reading as reading
-use Rattle.lic_ere.specs.Reading.{LastUnit, last_units, Level, new_level, units, with_unit, with_alternative, level_tree, repeat_last, State, max_depth, meet, finish, read_on, start, reading}
+use Rattle.lic_ere.specs.Reading.{LastUnit, last_units, GroupLevel, new_level, units, with_unit, with_alternative, level_tree, repeat_last, State, max_depth, meet, finish, read_on, start, reading}
 use Rattle.lic_ere.specs.Grammar.{IsUnit, plain, group, closes_nothing, IsSequence, no_unit, once, repeated, IsChoice, only, or, without_anchors, IsPattern}
 use Rattle.lic_ere.proofs.LexemeSpelling.{are_spelled}
 use Rattle.lic_ere.proofs.Complete.{run}
@@ -25,14 +25,14 @@ data EndsSequence (depth : ℕ) : LastUnit → List (ℕ × Lexeme) → List (�
   settled : {t : Tree} {ls rest : List (ℕ × Lexeme)} {ts : List Tree} → IsSequence depth ls rest ts → EndsSequence depth (reading.repeated t) ls rest (t ∷ ts)
 
 -- the rest of a level, and all of its alternatives
-data EndsLevel (depth : ℕ) (level : Level) (ls rest : List (ℕ × Lexeme)) : List Tree → Type 0 where
+data EndsLevel (depth : ℕ) (level : GroupLevel) (ls rest : List (ℕ × Lexeme)) : List Tree → Type 0 where
   last_sequence : {ts : List Tree} → EndsSequence depth level.last ls rest ts → EndsLevel depth level ls rest (level.alternatives ++ units_tree (level.before ++ ts) ∷ [])
   more_sequences : {offset : ℕ} {more : List (ℕ × Lexeme)} {ts us : List Tree}
       → EndsSequence depth level.last ls ((offset, bar) ∷ more) ts → IsChoice depth more rest us
       → EndsLevel depth level ls rest (level.alternatives ++ units_tree (level.before ++ ts) ∷ us)
 
 -- the rest of the pattern: of the innermost level, and after its `)` of those round it
-abbrev Completes : Level → List Level → List (ℕ × Lexeme) → Tree → Type 0
+abbrev Completes : GroupLevel → List GroupLevel → List (ℕ × Lexeme) → Tree → Type 0
 Completes level [] ls t = (us : List Tree) × EndsLevel 0 level ls [] us × (t ≡ choice_tree us)
 Completes level (o ∷ outer) ls t =
     (end : ℕ) × (rest : List (ℕ × Lexeme)) × (us : List Tree)
@@ -40,7 +40,7 @@ Completes level (o ∷ outer) ls t =
     × Completes (with_unit (choice_tree us) o) outer rest t
 
 -- what ends one level so ends another so
-Completes-map : (l m : Level) (outer : List Level) (ls ms : List (ℕ × Lexeme)) (t : Tree)
+Completes-map : (l m : GroupLevel) (outer : List GroupLevel) (ls ms : List (ℕ × Lexeme)) (t : Tree)
     → ((rest : List (ℕ × Lexeme)) (us : List Tree) → EndsLevel (length outer) l ls rest us
     → EndsLevel (length outer) m ms rest us) → Completes l outer ls t → Completes m outer ms t
 Completes-map l m [] ls ms t change h = (h.0, change [] h.0 h.1, h.2)
@@ -66,7 +66,7 @@ unit_sequence depth last from ls rest u ts is (kept {ts = us} r) = attach depth 
 unit_sequence depth last from ls rest u ts is (signed {b = b} {ts = us} r) = attach depth last from rest (repeat u b.min b.max ∷ us) (repeated is r)
 
 -- one unit, and the rest of its level
-unit_level : (depth : ℕ) (level : Level) (from ls : List (ℕ × Lexeme)) (u : Tree) → IsUnit depth from ls u
+unit_level : (depth : ℕ) (level : GroupLevel) (from ls : List (ℕ × Lexeme)) (u : Tree) → IsUnit depth from ls u
     → (rest : List (ℕ × Lexeme)) (us : List Tree) → EndsLevel depth (with_unit u level) ls rest us
     → EndsLevel depth level from rest us
 unit_level depth level from ls u is rest us (last_sequence {ts = ts} r) =
@@ -79,7 +79,7 @@ unit_level depth level from ls u is rest us (more_sequences {offset = p} {more =
     (more_sequences (unit_sequence depth level.last from ls ((p, bar) ∷ more) u ts is r) others)
 
 -- a bar, and the rest of the level
-bar_level : (depth offset : ℕ) (level : Level) (ls rest : List (ℕ × Lexeme)) (us : List Tree)
+bar_level : (depth offset : ℕ) (level : GroupLevel) (ls rest : List (ℕ × Lexeme)) (us : List Tree)
     → EndsLevel depth (with_alternative level) ls rest us → EndsLevel depth level ((offset, bar) ∷ ls) rest us
 bar_level depth offset level ls rest us (last_sequence {ts = ts} (fresh r)) =
     subst (EndsLevel depth level ((offset, bar) ∷ ls) rest)
@@ -104,7 +104,7 @@ sign_level depth offset from b u before alternatives ls rest us (more_sequences 
 
 -- what is read from here on completes the pattern
 abbrev Sound : List (ℕ × Lexeme) → Type 0
-Sound ls = (level : Level) (outer : List Level) (t : Tree) → run level outer ls ≡ Ok t → Completes level outer (without_anchors ls) t
+Sound ls = (level : GroupLevel) (outer : List GroupLevel) (t : Tree) → run level outer ls ≡ Ok t → Completes level outer (without_anchors ls) t
 
 abbrev done : Tree → Result Tree EreFault
 done t = Ok t
@@ -125,7 +125,7 @@ unit_sound offset u ls others level outer t e =
     (others (with_unit u level) outer t e)
 
 sign_by : (offset from : ℕ) (b : Option Bounds) (last : LastUnit) (before alternatives : List Tree)
-    (ls : List (ℕ × Lexeme)) → Sound ls → (outer : List Level) (t : Tree)
+    (ls : List (ℕ × Lexeme)) → Sound ls → (outer : List GroupLevel) (t : Tree)
     → run (record { offset = from; alternatives = alternatives; before = before; last = last }) outer ((offset, sign b) ∷ ls) ≡ Ok t
     → Completes (record { offset = from; alternatives = alternatives; before = before; last = last }) outer ((offset, sign b) ∷ without_anchors ls) t
 unfolding read_on meet
@@ -137,7 +137,7 @@ sign_by offset from (Some b) (reading.single u) before alternatives ls others ou
     (sign_level (length outer) offset from b u before alternatives (without_anchors ls))
     (others (record { offset = from; alternatives = alternatives; before = before; last = reading.repeated (repeat u b.min b.max) }) outer t e)
 
-opening_by : (offset : ℕ) (ls : List (ℕ × Lexeme)) → Sound ls → (level : Level) (outer : List Level) (t : Tree) (b : Bool) → ltb (length outer) 64 ≡ b
+opening_by : (offset : ℕ) (ls : List (ℕ × Lexeme)) → Sound ls → (level : GroupLevel) (outer : List GroupLevel) (t : Tree) (b : Bool) → ltb (length outer) 64 ≡ b
     → (cond b (Ok (record { level = new_level offset; outer = level ∷ outer })) (Err (fault_at offset TooDeep)) >>= λ s. read_on s ls None) ≡ Ok t
     → Completes level outer ((offset, opening) ∷ without_anchors ls) t
 opening_by offset ls others level outer t false lt e = absurd cc

@@ -22,23 +22,23 @@ last_units (repeated t) = t ∷ []
 
 -- The whole pattern, or an open group: where it begins, its alternatives before the last `|`, and the units
 -- after that, the last one apart.
-pub record Level : Type 0 where
+pub record GroupLevel : Type 0 where
   pub offset : ℕ
   pub alternatives : List Tree
   pub before : List Tree
   pub last : LastUnit
 
 -- a level with nothing read
-abbrev pub new_level : ℕ → Level
+abbrev pub new_level : ℕ → GroupLevel
 new_level offset = record { offset = offset; alternatives = []; before = []; last = no_unit }
 
-abbrev pub units : Level → List Tree
+abbrev pub units : GroupLevel → List Tree
 units l = l.before ++ last_units l.last
 
-abbrev pub with_unit : Tree → Level → Level
+abbrev pub with_unit : Tree → GroupLevel → GroupLevel
 with_unit t l = record l { before = units l; last = single t }
 
-abbrev pub with_alternative : Level → Level
+abbrev pub with_alternative : GroupLevel → GroupLevel
 with_alternative l = record l {
   alternatives = l.alternatives ++ units_tree (units l) ∷ [];
   before = [];
@@ -47,7 +47,7 @@ with_alternative l = record l {
 }
 
 -- the tree of what was read
-abbrev pub level_tree : Level → Tree
+abbrev pub level_tree : GroupLevel → Tree
 level_tree l = choice_tree (l.alternatives ++ units_tree (units l) ∷ [])
 
 -- the last unit with a repetition sign at an offset
@@ -57,7 +57,7 @@ repeat_last offset b (repeated t) = Err (fault_at offset TwoSigns)
 repeat_last offset None (single t) = Err (fault_at offset BadBound)
 repeat_last offset (Some b) (single t) = Ok (repeated (repeat t b.min b.max))
 
-abbrev pub with_sign : ℕ → Option Bounds → Level → Result Level EreFault
+abbrev pub with_sign : ℕ → Option Bounds → GroupLevel → Result GroupLevel EreFault
 with_sign offset b l = repeat_last offset b l.last >>= λ last. Ok (record l { last = last })
 
 -- how deep groups may be nested
@@ -66,8 +66,8 @@ max_depth = 64
 
 -- the innermost level, and those round it, from the inside out
 pub record State : Type 0 where
-  pub level : Level
-  pub outer : List Level
+  pub level : GroupLevel
+  pub outer : List GroupLevel
 
 abbrev pub start : State
 start = record { level = new_level 0; outer = [] }
@@ -78,7 +78,7 @@ open_group offset s =
     else Err (fault_at offset TooDeep)
 
 -- the innermost group becomes a unit of the level round it; a `)` that closes nothing is an ordinary character
-abbrev pub close_group : Level → List Level → State
+abbrev pub close_group : GroupLevel → List GroupLevel → State
 close_group level [] = record { level = with_unit (letters_tree close_paren) level; outer = [] }
 close_group level (o ∷ outer) = record { level = with_unit (level_tree level) o; outer = outer }
 
@@ -92,7 +92,7 @@ meet offset bar s = Ok (record s { level = with_alternative s.level })
 meet offset anchor s = Ok s
 
 -- after the last lexeme
-abbrev pub finish : Level → List Level → Result Tree EreFault
+abbrev pub finish : GroupLevel → List GroupLevel → Result Tree EreFault
 finish level [] = Ok (level_tree level)
 finish level (o ∷ outer) = Err (fault_at level.offset GroupNotClosed)
 

@@ -8,7 +8,7 @@ use Rattle.lic_ere.specs.Trees.{tree_of}
 use Rattle.lic_ere.specs.Lexemes as lexemes
 use Rattle.lic_ere.specs.declared.level.LastUnit.{LastUnit}
 use Rattle.lic_ere.specs.declared.level.LastUnit.TheVariants as levels
-use Rattle.lic_ere.specs.declared.level.Level.{Level}
+use Rattle.lic_ere.specs.declared.level.GroupLevel.{GroupLevel}
 use Rattle.lic_ere.specs.declared.reader.PatternReader.{PatternReader}
 use Rattle.lic_ere.specs.Reading as reading
 
@@ -33,7 +33,7 @@ last_of levels.None = reading.no_unit
 last_of (levels.Single unit) = reading.single (tree_of unit)
 last_of (levels.Repeated unit) = reading.repeated (tree_of unit)
 
-abbrev pub level_of : Level → reading.Level
+abbrev pub level_of : GroupLevel → reading.GroupLevel
 level_of l =
     record {
       offset = l.offset;
@@ -43,7 +43,7 @@ level_of l =
     }
 
 -- the levels from the inside out
-abbrev pub levels_of : List Level → List reading.Level
+abbrev pub levels_of : List GroupLevel → List reading.GroupLevel
 levels_of ls = reverse (map level_of ls)
 
 abbrev pub state_of : PatternReader → reading.State

@@ -19,7 +19,7 @@ pub enum LastUnit {
 
 /// The whole pattern, or an open group.
 #[derive(Drop)]
-pub struct Level {
+pub struct GroupLevel {
     /// The byte at which it begins.
     pub offset: usize,
     /// The alternatives before the last `|`.
@@ -29,17 +29,17 @@ pub struct Level {
     pub last: LastUnit,
 }
 
-impl Level {
+impl GroupLevel {
     ghost use Rattle.lic_ere.specs.Trees.{tree_of};
     ghost use Rattle.lic_ere.specs.Faults.{Gives};
     ghost use Rattle.lic_ere.specs.Reading.{new_level, with_unit, with_sign, with_alternative, level_tree};
     ghost use Rattle.lic_ere.specs.Views.{level_of};
 
     /// A level with nothing read.
-    pub fn new(alloc: Global, offset: usize) -> Level
+    pub fn new(alloc: Global, offset: usize) -> GroupLevel
         ensures { level_of result ≡ new_level offset }
     {
-        Level {
+        GroupLevel {
             offset,
             alternatives: Vec::new(alloc),
             before: Vec::new(alloc),

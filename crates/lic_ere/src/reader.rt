@@ -4,7 +4,7 @@ ghost use Rattle.std.specs.Prelude.{◌≡◌, OnOk};
 use crate::ere::Ere;
 use crate::fault::{EreCause, EreFault};
 use crate::letters::letters;
-use crate::level::Level;
+use crate::level::GroupLevel;
 use crate::lexeme::Lexeme;
 use std::alloc::{AllocError, Global};
 use std::mem;
@@ -15,9 +15,9 @@ const MAX_DEPTH: usize = 64;
 /// The innermost level, and those round it.
 #[derive(Drop)]
 pub struct PatternReader {
-    pub level: Level,
+    pub level: GroupLevel,
     /// The innermost one is last.
-    pub outer: Vec<Level>,
+    pub outer: Vec<GroupLevel>,
 }
 
 impl PatternReader {
@@ -31,7 +31,7 @@ impl PatternReader {
         ensures { state_of result ≡ start }
     {
         PatternReader {
-            level: Level::new(alloc, 0),
+            level: GroupLevel::new(alloc, 0),
             outer: Vec::new(alloc),
         }
     }
@@ -46,7 +46,7 @@ impl PatternReader {
                 cause: EreCause::TooDeep,
             });
         }
-        let outer = mem::replace(&mut self.level, Level::new(alloc, offset));
+        let outer = mem::replace(&mut self.level, GroupLevel::new(alloc, offset));
         self.outer.push(outer)?;
         Ok(())
     }

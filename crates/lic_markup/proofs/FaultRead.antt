@@ -16,7 +16,7 @@ use Rattle.lic_elements.specs.Elements.{Element, text, rule, refused, elements}
 use Rattle.lic_markup.specs.Lines.{with_next, next_of}
 use Rattle.lic_markup.specs.Parts.{Reading, TemplateValue, sequence, sequence_weight, template_of}
 use Rattle.lic_markup.specs.Reading as reading
-use Rattle.lic_markup.specs.Reading.{Level, State, meet, meet_text, meet_variable, meet_end, finish, read_on, read_elements, start, max_depth, max_length, max_weight}
+use Rattle.lic_markup.specs.Reading.{PartLevel, State, meet, meet_text, meet_variable, meet_end, finish, read_on, read_elements, start, max_depth, max_length, max_weight}
 use Rattle.lic_markup.specs.Templates.{original_of}
 use Rattle.lic_markup.specs.FirstFaults as faults
 use Rattle.lic_markup.specs.FirstFaults.{AreSound, IsAtFault, of_rule, bad_pattern, too_deep, no_begin, Lead, nowhere, on, over, into, out, IsFirstFault, at_rule, not_ended, no_token, too_heavy, IsFaultOf, too_long, otherwise}
@@ -27,12 +27,12 @@ use Rattle.lic_markup.proofs.TemplateSpelled.{items_read, after_variable, after_
 use Rattle.lic_markup.proofs.FaultSpelled.{reading-IsFaultOf, with_letters-offset}
 
 -- k levels out is one that begins at this offset
-abbrev Begins : ℕ → ℕ → List Level → Type 0
+abbrev Begins : ℕ → ℕ → List PartLevel → Type 0
 Begins offset k [] = ⊥
 Begins offset zero (l ∷ ls) = l.offset ≡ offset
 Begins offset (suc k) (l ∷ ls) = Begins offset k ls
 
-begins-same : (offset k : ℕ) (l m : Level) (ls : List Level) → m.offset ≡ l.offset → Begins offset k (l ∷ ls) → Begins offset k (m ∷ ls)
+begins-same : (offset k : ℕ) (l m : PartLevel) (ls : List PartLevel) → m.offset ≡ l.offset → Begins offset k (l ∷ ls) → Begins offset k (m ∷ ls)
 begins-same offset zero l m ls same h = same ∙ h
 begins-same offset (suc k) l m ls same h = h
 
@@ -51,16 +51,16 @@ module _ (line_rules : LineRules) (words : List Phrase) where
       let lt : nat_lt (length s.outer) max_depth ≡ true = grind (arith, nat_tests) in
       ap (λ b. then line_rules words (cond b (Ok (after_begin line_rules words s offset)) (Err (fault_at offset TooDeep))) es) lt
 
-  finish_on : (s : State) (offset : ℕ) (es : List Element) (o : Level) (os : List Level) → s.outer ≡ o ∷ os
+  finish_on : (s : State) (offset : ℕ) (es : List Element) (o : PartLevel) (os : List PartLevel) → s.outer ≡ o ∷ os
       → read_on line_rules words s (with_next (rule (rules.finish offset) ∷ es))
       ≡ read_on line_rules words (after_finish line_rules words s o os) (with_next es)
   unfolding read_on meet
-  finish_on s offset es o os is = ap (λ (ls : List Level). then line_rules words (meet_end offset s.level ls s) es) is
+  finish_on s offset es o os is = ap (λ (ls : List PartLevel). then line_rules words (meet_end offset s.level ls s) es) is
 
   -- ---- sound elements
 
   finish_by : (s : State) (offset depth end : ℕ) (es rest : List Element)
-      → ((t : State) → length t.outer ≡ depth → Reaches t es end rest) → (os : List Level) → s.outer ≡ os
+      → ((t : State) → length t.outer ≡ depth → Reaches t es end rest) → (os : List PartLevel) → s.outer ≡ os
       → length os ≡ suc depth → Reaches s (rule (rules.finish offset) ∷ es) end rest
   finish_by s offset depth end es rest others [] is at = absurd (omega (arith, at))
   finish_by s offset depth end es rest others (o ∷ os) is at =
@@ -88,9 +88,9 @@ module _ (line_rules : LineRules) (words : List Phrase) where
 
   -- ---- an element at fault
 
-  end_alone : (s : State) (offset : ℕ) (after : List Element) (os : List Level) → s.outer ≡ os → length os ≡ 0
+  end_alone : (s : State) (offset : ℕ) (after : List Element) (os : List PartLevel) → s.outer ≡ os → length os ≡ 0
       → then line_rules words (meet_end offset s.level s.outer s) after ≡ Err (fault_at offset EndWithoutBegin)
-  end_alone s offset after [] is at = ap (λ (os : List Level). then line_rules words (meet_end offset s.level os s) after) is
+  end_alone s offset after [] is at = ap (λ (os : List PartLevel). then line_rules words (meet_end offset s.level os s) after) is
   end_alone s offset after (o ∷ os) is at = absurd (omega (arith, at))
 
   fault_on : {depth : ℕ} {x : Element} {e : MarkupFault} → IsAtFault depth x e → (after : List Element) (s : State)
@@ -124,7 +124,7 @@ module _ (line_rules : LineRules) (words : List Phrase) where
 
   out_by : (s : State) (offset part k j depth end : ℕ) (es : List Element)
       → ((t : State) → length t.outer ≡ depth → Begins part k (t.level ∷ t.outer) → Leads part j t es end)
-      → (os : List Level) → s.outer ≡ os → Begins part k os → length os ≡ suc depth
+      → (os : List PartLevel) → s.outer ≡ os → Begins part k os → length os ≡ suc depth
       → Leads part j s (rule (rules.finish offset) ∷ es) end
   out_by s offset part k j depth end es others [] is begins at = absurd (omega (arith, at))
   out_by s offset part k j depth end es others (o ∷ os) is begins at =
@@ -155,11 +155,11 @@ module _ (line_rules : LineRules) (words : List Phrase) where
   lead_on (out {open_parts = k} {end = j} {es = es} l) (faults.finish {depth = depth} {end = end} {offset = offset} h) part s at begins =
       out_by s offset part k j depth end es (λ t. lead_on l h part t) s.outer refl begins at
 
-  still_open : (t : State) (offset depth : ℕ) (os : List Level) → t.outer ≡ os → length os ≡ suc depth
+  still_open : (t : State) (offset depth : ℕ) (os : List PartLevel) → t.outer ≡ os → length os ≡ suc depth
       → t.level.offset ≡ offset → finish t.level t.outer t.original ≡ Err (fault_at offset NotEnded)
   still_open t offset depth [] is at same = absurd (omega (arith, at))
   still_open t offset depth (o ∷ os) is at same =
-      ap (λ (ls : List Level). finish t.level ls t.original) is ∙ ap (λ (p : ℕ). Err (fault_at p NotEnded)) same
+      ap (λ (ls : List PartLevel). finish t.level ls t.original) is ∙ ap (λ (p : ℕ). Err (fault_at p NotEnded)) same
 
   open_by : (before following : List Element) (offset depth m : ℕ) → AreSound 0 before m
       → AreSound m (rule (rules.begin offset) ∷ following) (suc depth) → Lead 0 following 0

@@ -18,7 +18,7 @@ use Rattle.lic_elements.specs.Elements.{Element, text, rule, refused, elements}
 use Rattle.lic_markup.specs.Lines.{with_next, next_of}
 use Rattle.lic_markup.specs.Parts.{Node, Reading, sequence, sequence_weight, sequence_has_token}
 use Rattle.lic_markup.specs.Reading as reading
-use Rattle.lic_markup.specs.Reading.{Level, State, meet, meet_text, meet_variable, meet_end, finish, read_on, read_elements, start, whole, reported, max_depth, max_length, max_weight}
+use Rattle.lic_markup.specs.Reading.{PartLevel, State, meet, meet_text, meet_variable, meet_end, finish, read_on, read_elements, start, whole, reported, max_depth, max_length, max_weight}
 use Rattle.lic_markup.specs.Templates as templates
 use Rattle.lic_markup.specs.Templates.{Item, letters, opens_line, is_piece, is_variable, is_begin, is_finish, AreItems, no_item, one_item}
 use Rattle.lic_markup.specs.FirstFaults as faults
@@ -65,14 +65,14 @@ lead-deeper (out h) = out (lead-deeper h)
 
 -- Before here the innermost open part begins where its level says, and each part that begins after that is ended; so do those
 -- round it.
-abbrev Open : List Element → Level → List Level → Type 0
+abbrev Open : List Element → PartLevel → List PartLevel → Type 0
 Open before level [] = Lead 0 before 0
 Open before level (o ∷ outer) =
     (front : List Element) × (following : List Element) × (before ≡ front ++ rule (rules.begin level.offset) ∷ following)
     × Lead 0 following 0 × Open front o outer
 
 -- elements that leave as many parts open
-open-on : (before more : List Element) (l m : Level) (outer : List Level) → m.offset ≡ l.offset → Lead 0 more 0
+open-on : (before more : List Element) (l m : PartLevel) (outer : List PartLevel) → m.offset ≡ l.offset → Lead 0 more 0
     → Open before l outer → Open (before ++ more) m outer
 open-on before more l m [] same leads h = lead-append more h leads
 open-on before more l m (o ∷ outer) same leads h = (
@@ -85,7 +85,7 @@ open-on before more l m (o ∷ outer) same leads h = (
 )
 
 -- the end of the innermost part
-open-end : (before : List Element) (offset : ℕ) (level o m : Level) (outer : List Level) → m.offset ≡ o.offset
+open-end : (before : List Element) (offset : ℕ) (level o m : PartLevel) (outer : List PartLevel) → m.offset ≡ o.offset
     → Open before level (o ∷ outer) → Open (before ++ rule (rules.finish offset) ∷ []) m outer
 open-end before offset level o m outer same h =
     let more : List Element = rule (rules.begin level.offset) ∷ (h.1 ++ rule (rules.finish offset) ∷ []) in
@@ -124,7 +124,7 @@ module _ (line_rules : LineRules) (words : List Phrase) where
       → AreSound 0 before (length s.outer) → Open before s.level s.outer
       → read_on line_rules words s (with_next es) ≡ Err e → Fault before es s e
 
-  end_by : (before : List Element) (s : State) (e : MarkupFault) (os : List Level) → s.outer ≡ os
+  end_by : (before : List Element) (s : State) (e : MarkupFault) (os : List PartLevel) → s.outer ≡ os
       → AreSound 0 before (length os) → Open before s.level os → finish s.level os s.original ≡ Err e
       → Fault before [] s e
   end_by before s e [] none sound opens is = late s.original no_item (run_nothing line_rules words s none) is
@@ -172,7 +172,7 @@ module _ (line_rules : LineRules) (words : List Phrase) where
       (before, [], refl, nowhere, opens) is)
 
   finish_by : (es before : List Element) (s : State) (e : MarkupFault) (offset : ℕ) → Faulty es
-      → s.at_start ≡ opens_line before → (os : List Level) → s.outer ≡ os → AreSound 0 before (length os)
+      → s.at_start ≡ opens_line before → (os : List PartLevel) → s.outer ≡ os → AreSound 0 before (length os)
       → Open before s.level os
       → then line_rules words (meet_end offset s.level os s) es ≡ Err e → Fault before (rule (rules.finish offset) ∷ es) s e
   finish_by es before s e offset others starts [] none sound opens is =
@@ -186,7 +186,7 @@ module _ (line_rules : LineRules) (words : List Phrase) where
       (sound-append (x ∷ []) sound (faults.finish faults.none))
       (open-end before offset s.level o t.level os refl opens) is)
 
-  pub with_letters-offset : (l : List ℕ) (level : Level) → (reading.with_letters l level).offset ≡ level.offset
+  pub with_letters-offset : (l : List ℕ) (level : PartLevel) → (reading.with_letters l level).offset ≡ level.offset
   with_letters-offset [] level = refl
   with_letters-offset (c ∷ cs) level = refl
 

@@ -13,7 +13,7 @@ use Rattle.lic_pieces.specs.declared.pieces.Next.{Next}
 use Rattle.lic_markup.specs.Meaning.{piece_texts}
 use Rattle.lic_markup.specs.Parts.{Node, letters, variable, optional, sequence}
 use Rattle.lic_markup.specs.PartTexts.{HasPieceTexts, HavePieceTexts}
-use Rattle.lic_markup.specs.Reading.{Level, State, with_letters, meet_variable, meet_end}
+use Rattle.lic_markup.specs.Reading.{PartLevel, State, with_letters, meet_variable, meet_end}
 use Rattle.lic_markup.specs.ReadTexts.{HoldPieceTexts, HasReadTexts}
 use Rattle.lic_elements.specs.Faults.{Gives}
 use Rattle.lic_elements.specs.declared.fault.MarkupFault.{MarkupFault}
@@ -34,7 +34,7 @@ pushed : (ns : List Node) (n : Node) → HavePieceTexts (sequence ns) → HasPie
 pushed [] n so_far here = (here, tt)
 pushed (m ∷ ns) n so_far here = (so_far.0, pushed ns n so_far.1 here)
 
-pub with_letters-texts : (text : List ℕ) (l : Level) → IsUtf8 text → IsPieceText text
+pub with_letters-texts : (text : List ℕ) (l : PartLevel) → IsUtf8 text → IsPieceText text
     → HavePieceTexts (sequence l.parts) → HavePieceTexts (sequence (with_letters text l).parts)
 with_letters-texts [] l utf8 text so_far = so_far
 with_letters-texts (b ∷ bs) l utf8 text so_far = pushed l.parts (letters (b ∷ bs)) so_far (omega arith, utf8, text)
@@ -52,7 +52,7 @@ module _ (s t : State) (so_far : HasReadTexts s) where
       (pushed s.level.parts (variable name original tree) so_far.0 tt, so_far.1)
   variable_texts name original offset (Err e) is = absurd cc
 
-  end_texts : (offset : ℕ) (level : Level) (outer : List Level) → HavePieceTexts (sequence level.parts) → HoldPieceTexts outer
+  end_texts : (offset : ℕ) (level : PartLevel) (outer : List PartLevel) → HavePieceTexts (sequence level.parts) → HoldPieceTexts outer
       → meet_end offset level outer s ≡ Ok t → HasReadTexts t
   end_texts offset level [] inner others is = absurd cc
   end_texts offset level (o ∷ outer) inner others is =

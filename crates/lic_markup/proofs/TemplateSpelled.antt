@@ -24,7 +24,7 @@ use Rattle.lic_markup.specs.Lines.{with_next, next_of, next_after}
 use Rattle.lic_markup.specs.Parts as parts
 use Rattle.lic_markup.specs.Parts.{Node, Reading, TemplateValue, sequence, sequence_weight, sequence_has_token, template_of}
 use Rattle.lic_markup.specs.Reading as reading
-use Rattle.lic_markup.specs.Reading.{Level, State, new_level, with_part, meet, meet_text, meet_variable, meet_begin, meet_end, finish, read_on, read_elements, start, whole, reported, max_depth, max_length, max_weight}
+use Rattle.lic_markup.specs.Reading.{PartLevel, State, new_level, with_part, meet, meet_text, meet_variable, meet_begin, meet_end, finish, read_on, read_elements, start, whole, reported, max_depth, max_length, max_weight}
 use Rattle.lic_markup.specs.Templates as templates
 use Rattle.lic_markup.specs.Templates.{Item, letters, variable, begin, original_of, opens_line, follows, IsItem, is_piece, is_variable, is_begin, is_finish, AreItems, no_item, one_item, AreParts, IsTemplate}
 use Rattle.lic_elements.proofs.FaultLemmas.{Gives-same}
@@ -45,7 +45,7 @@ not_done e r h = absurd (never h)
     never : Err e ≡ done r → ⊥
     never h = cc
 
-abbrev pub parts_in : List Level → List (List Node)
+abbrev pub parts_in : List PartLevel → List (List Node)
 parts_in levels = map (λ l. l.parts) levels
 
 -- what holds of each accepted template
@@ -113,7 +113,7 @@ module _ (line_rules : LineRules) (words : List Phrase) where
       → s.at_start ≡ opens_line before → letters_at s piece es ≡ letters_of before piece es
   letters_same s before piece es starts = ap₂ (λ (b : Bool) (n : Next). piece_of line_rules words b n (text_of piece)) starts (follows-is piece es)
 
-  with_letters-parts : (l : List ℕ) (level : Level) → (reading.with_letters l level).parts ≡ items.with_letters l level.parts
+  with_letters-parts : (l : List ℕ) (level : PartLevel) → (reading.with_letters l level).parts ≡ items.with_letters l level.parts
   with_letters-parts [] level = refl
   with_letters-parts (c ∷ cs) level = refl
 
@@ -160,7 +160,7 @@ module _ (line_rules : LineRules) (words : List Phrase) where
 
   pub run_nothing : (s : State) → s.outer ≡ [] → run s.level.parts (parts_in s.outer) [] ≡ Some s.level.parts
   unfolding run
-  run_nothing s none = ap (λ (os : List Level). items.ended s.level.parts (parts_in os)) none
+  run_nothing s none = ap (λ (os : List PartLevel). items.ended s.level.parts (parts_in os)) none
 
   variable_was : (before es : List Element) (s : State) (r : Reading) (name original : List ℕ) (offset : ℕ)
       (pattern : List ℕ) (tree : Tree) → IsPattern pattern tree
@@ -202,16 +202,16 @@ module _ (line_rules : LineRules) (words : List Phrase) where
         is_whole = was.is_whole;
       }
 
-  abbrev pub after_finish : State → Level → List Level → State
+  abbrev pub after_finish : State → PartLevel → List PartLevel → State
   after_finish s o outer = record s { level = with_part (parts.optional (sequence s.level.parts)) o; outer = outer }
 
-  pub run_finish : (s : State) (o : Level) (outer : List Level) (is : List Item) → s.outer ≡ o ∷ outer
+  pub run_finish : (s : State) (o : PartLevel) (outer : List PartLevel) (is : List Item) → s.outer ≡ o ∷ outer
       → run s.level.parts (parts_in s.outer) (templates.finish ∷ is)
       ≡ run (o.parts ++ parts.optional (sequence s.level.parts) ∷ []) (parts_in outer) is
   unfolding run
-  run_finish s o outer is e = ap (λ (os : List Level). run s.level.parts (parts_in os) (templates.finish ∷ is)) e
+  run_finish s o outer is e = ap (λ (os : List PartLevel). run s.level.parts (parts_in os) (templates.finish ∷ is)) e
 
-  finish_was : (before es : List Element) (s : State) (r : Reading) (offset : ℕ) (o : Level) (outer : List Level)
+  finish_was : (before es : List Element) (s : State) (r : Reading) (offset : ℕ) (o : PartLevel) (outer : List PartLevel)
       → s.outer ≡ o ∷ outer → WasRead (before ++ rule (rules.finish offset) ∷ []) es (after_finish s o outer) r
       → WasRead before (rule (rules.finish offset) ∷ es) s r
   unfolding NotRefused
@@ -234,14 +234,14 @@ module _ (line_rules : LineRules) (words : List Phrase) where
   abbrev pub then : Result State MarkupFault → List Element → Result Reading MarkupFault
   then met es = met >>= λ t. read_on line_rules words t (with_next es)
 
-  end_by : (before : List Element) (s : State) (r : Reading) (os : List Level) → s.outer ≡ os → finish s.level os s.original ≡ Ok r → WasRead before [] s r
+  end_by : (before : List Element) (s : State) (r : Reading) (os : List PartLevel) → s.outer ≡ os → finish s.level os s.original ≡ Ok r → WasRead before [] s r
   unfolding NotRefused run
   end_by before s r [] none e =
       let was = whole_was s.level.parts s.original r e in
       record {
         items = [];
         are = no_item;
-        runs = ap (λ (os : List Level). run s.level.parts (parts_in os) []) none ∙ ap (λ (q : Reading). items.got q.parts) was.1;
+        runs = ap (λ (os : List PartLevel). run s.level.parts (parts_in os) []) none ∙ ap (λ (q : Reading). items.got q.parts) was.1;
         original = ap (λ (q : Reading). q.original) (sym was.1) ∙ sym (append-nil s.original);
         lasts = tt;
         is_whole = was.0;
@@ -266,7 +266,7 @@ module _ (line_rules : LineRules) (words : List Phrase) where
       (others (before ++ rule (rules.begin offset) ∷ []) (after_begin s offset) r
       (opens-begin s.at_start before offset starts) e)
 
-  finish_by : (es before : List Element) (s : State) (r : Reading) (offset : ℕ) → s.at_start ≡ opens_line before → Sound es → (os : List Level) → s.outer ≡ os
+  finish_by : (es before : List Element) (s : State) (r : Reading) (offset : ℕ) → s.at_start ≡ opens_line before → Sound es → (os : List PartLevel) → s.outer ≡ os
       → then (meet_end offset s.level os s) es ≡ Ok r → WasRead before (rule (rules.finish offset) ∷ es) s r
   finish_by es before s r offset starts others [] is e = not_done (fault_at offset EndWithoutBegin) r e
   finish_by es before s r offset starts others (o ∷ os) is e =
@@ -320,13 +320,13 @@ module _ (line_rules : LineRules) (words : List Phrase) where
 
   -- ---- what is spelled is read
 
-  run_end : (s : State) (ps : List Node) (os : List Level) → s.outer ≡ os
+  run_end : (s : State) (ps : List Node) (os : List PartLevel) → s.outer ≡ os
       → run s.level.parts (parts_in s.outer) [] ≡ Some ps → finish s.level os s.original ≡ whole ps (s.original ++ [])
   unfolding run
   run_end s ps [] none e =
-      let same : s.level.parts ≡ ps = items.same s.level.parts ps (sym (ap (λ (os : List Level). items.ended s.level.parts (parts_in os)) none) ∙ e) in
+      let same : s.level.parts ≡ ps = items.same s.level.parts ps (sym (ap (λ (os : List PartLevel). items.ended s.level.parts (parts_in os)) none) ∙ e) in
       (λ i. whole (same i) (sym (append-nil s.original) i))
-  run_end s ps (o ∷ os) some e = absurd (never (sym (ap (λ (os : List Level). items.ended s.level.parts (parts_in os)) some) ∙ e))
+  run_end s ps (o ∷ os) some e = absurd (never (sym (ap (λ (os : List PartLevel). items.ended s.level.parts (parts_in os)) some) ∙ e))
     where
       never : None ≡ items.got ps → ⊥
       never h = cc
@@ -354,12 +354,12 @@ module _ (line_rules : LineRules) (words : List Phrase) where
 
   finish_reads : (before es : List Element) (offset : ℕ) (is : List Item)
       → Reads (before ++ rule (rules.finish offset) ∷ []) es is → (s : State) (ps : List Node)
-      → s.at_start ≡ opens_line before → (os : List Level) → s.outer ≡ os
+      → s.at_start ≡ opens_line before → (os : List PartLevel) → s.outer ≡ os
       → run s.level.parts (parts_in s.outer) (templates.finish ∷ is) ≡ Some ps
       → then (meet_end offset s.level os s) es ≡ whole ps (s.original ++ original_of es)
   unfolding run
   finish_reads before es offset is others s ps starts [] none e =
-      absurd (never (sym (ap (λ (os : List Level). run s.level.parts (parts_in os) (templates.finish ∷ is)) none) ∙ e))
+      absurd (never (sym (ap (λ (os : List PartLevel). run s.level.parts (parts_in os) (templates.finish ∷ is)) none) ∙ e))
     where
       never : None ≡ items.got ps → ⊥
       never h = cc

@@ -2,10 +2,10 @@
 use Rattle.std.specs.Prelude.{List, [], ◌∷◌}
 use Rattle.lic_markup.specs.Parts.{sequence}
 use Rattle.lic_markup.specs.PartTexts.{HavePieceTexts}
-use Rattle.lic_markup.specs.Reading.{Level, State}
+use Rattle.lic_markup.specs.Reading.{PartLevel, State}
 
 -- the texts of these levels are such as pieces have
-abbrev pub HoldPieceTexts : List Level → Type 0
+abbrev pub HoldPieceTexts : List PartLevel → Type 0
 HoldPieceTexts [] = Unit {0}
 HoldPieceTexts (l ∷ ls) = HavePieceTexts (sequence l.parts) × HoldPieceTexts ls
 

@@ -20,21 +20,21 @@ use Rattle.lic_markup.specs.Lines.{at_line_start, next_after, with_next}
 use Rattle.lic_markup.specs.Parts.{Node, letters, variable, optional, sequence, sequence_weight, sequence_has_token, Reading}
 
 -- The template, or an open optional part: where it begins, and its parts so far.
-pub record Level : Type 0 where
+pub record PartLevel : Type 0 where
   pub offset : ℕ
   pub parts : List Node
 
-abbrev pub new_level : ℕ → Level
+abbrev pub new_level : ℕ → PartLevel
 new_level offset = record { offset = offset; parts = [] }
 
-abbrev pub with_part : Node → Level → Level
+abbrev pub with_part : Node → PartLevel → PartLevel
 with_part n l = record l { parts = l.parts ++ n ∷ [] }
 
 -- The innermost level, and those round it from the inside out; the original text so far; and whether only white
 -- space and optional rules are between the start of the line and here.
 pub record State : Type 0 where
-  pub level : Level
-  pub outer : List Level
+  pub level : PartLevel
+  pub outer : List PartLevel
   pub original : List ℕ
   pub at_start : Bool
 
@@ -42,7 +42,7 @@ abbrev pub start : State
 start = record { level = new_level 0; outer = []; original = []; at_start = true }
 
 -- letters are a part; none are no part
-abbrev pub with_letters : List ℕ → Level → Level
+abbrev pub with_letters : List ℕ → PartLevel → PartLevel
 with_letters [] l = l
 with_letters (c ∷ cs) l = with_part (letters (c ∷ cs)) l
 
@@ -85,7 +85,7 @@ meet_begin offset s =
     else Err (fault_at offset TooDeep)
 
 -- the innermost optional part becomes a part of the level round it
-abbrev pub meet_end : ℕ → Level → List Level → State → Result State MarkupFault
+abbrev pub meet_end : ℕ → PartLevel → List PartLevel → State → Result State MarkupFault
 meet_end offset level [] s = Err (fault_at offset EndWithoutBegin)
 meet_end offset level (o ∷ outer) s = Ok (record s { level = with_part (optional (sequence level.parts)) o; outer = outer })
 
@@ -110,7 +110,7 @@ whole parts original =
     else Ok (record { parts = parts; weight = sequence_weight (sequence parts); original = original }))
 
 -- after the last element: an optional part that is open is refused, the innermost one
-abbrev pub finish : Level → List Level → List ℕ → Result Reading MarkupFault
+abbrev pub finish : PartLevel → List PartLevel → List ℕ → Result Reading MarkupFault
 finish level [] original = whole level.parts original
 finish level (o ∷ outer) original = Err (fault_at level.offset NotEnded)
 

@@ -5,7 +5,7 @@ use Rattle.lic_pieces.specs.declared.pieces.Next.{Next}
 use Rattle.lic_elements.specs.declared.elements.Element.{Element}
 use Rattle.lic_elements.specs.Elements as elements
 use Rattle.lic_elements.specs.Views.{element_of}
-use Rattle.lic_markup.specs.declared.reader.Level.{Level}
+use Rattle.lic_markup.specs.declared.reader.PartLevel.{PartLevel}
 use Rattle.lic_markup.specs.declared.reader.TemplateReader.{TemplateReader}
 use Rattle.lic_markup.specs.Parts.{part_of}
 use Rattle.lic_markup.specs.Reading as reading
@@ -14,11 +14,11 @@ use Rattle.lic_markup.specs.Reading as reading
 abbrev pub placed_of : Element × Next → elements.Element × Next
 placed_of p = (element_of p.0, p.1)
 
-abbrev pub level_of : Level → reading.Level
+abbrev pub level_of : PartLevel → reading.PartLevel
 level_of l = record { offset = l.offset; parts = map part_of l.parts.items }
 
 -- the levels from the inside out
-abbrev pub levels_of : List Level → List reading.Level
+abbrev pub levels_of : List PartLevel → List reading.PartLevel
 levels_of ls = reverse (map level_of ls)
 
 abbrev pub state_of : TemplateReader → reading.State

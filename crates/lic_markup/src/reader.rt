@@ -31,18 +31,18 @@ const MAX_WEIGHT: u64 = 131_072;
 
 /// The template, or an open optional part.
 #[derive(Drop)]
-pub struct Level {
+pub struct PartLevel {
     /// The byte at which it begins.
     pub offset: usize,
     pub parts: Vec<Part>,
 }
 
-impl Level {
+impl PartLevel {
     /// A level with nothing read.
-    fn new(alloc: Global, offset: usize) -> Level
+    fn new(alloc: Global, offset: usize) -> PartLevel
         ensures { level_of result ≡ reading.new_level offset }
     {
-        Level {
+        PartLevel {
             offset,
             parts: Vec::new(alloc),
         }
@@ -63,9 +63,9 @@ impl Level {
 /// The innermost level, and those round it.
 #[derive(Drop)]
 pub struct TemplateReader {
-    pub level: Level,
+    pub level: PartLevel,
     /// The innermost one is last.
-    pub outer: Vec<Level>,
+    pub outer: Vec<PartLevel>,
     /// The original text so far.
     pub original: String,
     /// Whether there are only white space and optional rules between the start of the line and here.
@@ -103,7 +103,7 @@ impl TemplateReader {
         ensures texts { HasReadTexts (state_of result) }
     {
         TemplateReader {
-            level: Level::new(alloc, 0),
+            level: PartLevel::new(alloc, 0),
             outer: Vec::new(alloc),
             original: String::new(alloc),
             at_start: true,
@@ -184,7 +184,7 @@ impl TemplateReader {
                 cause: MarkupCause::TooDeep,
             });
         }
-        let outer = mem::replace(&mut self.level, Level::new(alloc, offset));
+        let outer = mem::replace(&mut self.level, PartLevel::new(alloc, offset));
         self.outer.push(outer)?;
         Ok(())
     }
@@ -258,7 +258,7 @@ impl TemplateReader {
 }
 
 /// The template of these levels, unless an optional part is open.
-fn ended(level: Level, outer: Vec<Level>, original: String) -> Result<Template, MarkupFault>
+fn ended(level: PartLevel, outer: Vec<PartLevel>, original: String) -> Result<Template, MarkupFault>
     requires { HavePieceTexts (sequence (map part_of level.parts.items)) }
     ensures exact { Gives template_of result
         (reading.finish (level_of level) (levels_of outer.items) (string_bytes original)) }
