@@ -2,11 +2,14 @@
 
 `./dev STEP` puts this module on the path of the script that it runs.
 """
-import argparse, contextlib, dataclasses, difflib, errno, os, pty, shutil, signal, subprocess, sys, tempfile, threading, tty
+import argparse, contextlib, dataclasses, difflib, errno, os, pty, re, shutil, signal, subprocess, sys, tempfile, threading, tty
 
 TOP = os.path.dirname(os.path.dirname(os.path.realpath(__file__)))
 PROGRAM = os.path.join(TOP, 'crates', 'licscan', 'out', 'licscan')
 TEMPLATES = os.path.join(TOP, 'examples', 'templates')
+# the version, which this source alone says
+with open(os.path.join(TOP, 'crates', 'lic_arguments', 'src', 'command_line.rt'), encoding='utf-8') as command_line:
+    VERSION = re.search(r'VERSION: &str = "(.+)"', command_line.read())[1]
 # by what name ./dev runs the trial
 STEP = ''
 # the whole environment of a command, if none is handed in

@@ -1,5 +1,5 @@
 """Cases of the texts of the arguments' parser."""
-from harness import Case
+from harness import VERSION, Case
 
 HELP = b"""\
 Finds the ranges of texts that licence templates match
@@ -129,7 +129,7 @@ For more information, try '--help'.
 
 CASES = [
     Case('help is shown', ['--help'], out=HELP),
-    Case('the version is shown', ['--version'], out=b'licscan 0.1.0\n'),
+    Case('the version is shown', ['--version'], out=f'licscan {VERSION}\n'.encode()),
     Case('help of scan', ['scan', '--help'], out=SCAN_HELP),
     Case('help of check', ['check', '--help'], out=CHECK_HELP),
     Case('help of tokens', ['tokens', '--help'], out=TOKENS_HELP),
