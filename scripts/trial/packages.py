@@ -3,7 +3,10 @@
 
 Packages are drawn from apt's list of sources, each of another section where that can be, those above 5 MB left out, and are unpacked to
 FOLDER/NAME. Those that cannot be fetched, or whose debian/copyright is not machine-readable, are left out, and the next one is drawn.
-apt keeps its lists in FOLDER/.apt, so the system's are left as they are, and no right is needed."""
+apt keeps its lists in FOLDER/.apt, so the system's are left as they are, and no right is needed.
+
+The draws of docs/TESTING.md were made `--without-seeds` 1, 3, 41, 20261128, 20261205, 20261207 to 20261211, 20261303, 20261401, 20261801, 20261301, 20261302,
+20261501, 20261601, then those of its table, 20262001 to 20262003 before the last two."""
 import argparse
 import os
 import random
