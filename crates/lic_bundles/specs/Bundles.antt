@@ -1,5 +1,5 @@
 -- The triples of bundles.
-use Rattle.std.specs.Prelude.{◌≡◌, ℕ, ◌+◌, ◌≤◌, ◌==◌, ◌&&◌, ◌||◌, nat_lt, nat_le, max, Bool, if◌then◌else◌, List, Option, Some, None, Any, AllPairs, Contains, ◌↔◌}
+use Rattle.std.specs.Prelude.{◌≡◌, ℕ, ◌+◌, ◌≤◌, ◌==◌, ◌&&◌, ◌||◌, nat_le, max, if◌then◌else◌, List, Option, Some, None, Any, AllPairs, Contains, ◌↔◌}
 use Rattle.lic_set.specs.Matches.{precedes, triple_at, IsAfter, AreAscending}
 use Rattle.lic_set.specs.declared.triple.Triple.{Triple}
 use Rattle.lic_bundles.specs.declared.bundle.Bundle.{Bundle}

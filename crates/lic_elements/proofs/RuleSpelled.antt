@@ -16,7 +16,7 @@ use Rattle.lic_elements.specs.Signs.{semicolon, equals, greater}
 use Rattle.lic_elements.specs.Texts.{text_of, offset_of, unescaped, begins_with, begins_with_two, spaces, trim_end, trim_start}
 use Rattle.lic_elements.specs.Faults.{map_ok, ◌>>=◌}
 use Rattle.lic_elements.specs.Rules as rules
-use Rattle.lic_elements.specs.Rules.{Values, no_values, field_of, has_value, with_value, at_end, second_field, name_at, value_at, field_at, field_or_none, fields_at, Rule, complete, rule_of, tag_at, rule_at}
+use Rattle.lic_elements.specs.Rules.{Values, no_values, field_of, has_value, with_value, at_end, second_field, name_at, value_at, field_at, field_or_none, fields_at, Rule, complete, rule_of, rule_at}
 use Rattle.lic_elements.specs.Markup.{UpTo, ends_field, ends_name, IsValue, IsField, field, IsFields, closed, empty, further as one_further, values_of, IsTag, IsRule, variable, begin, finish}
 use Rattle.lic_elements.proofs.RuleLemmas.{read}
 use Rattle.lic_elements.proofs.FieldLemmas.{read-shorter, fields_of, fields-end, fields_turn, fields_fail, fields-refused, fields-open, trim_start-shorter}

@@ -9,7 +9,7 @@ use Rattle.lic_ere.specs.Trees.{Tree, repeat, units_tree, choice_tree, letters_t
 use Rattle.lic_ere.specs.Faults.{◌>>=◌}
 use Rattle.lic_ere.specs.Lexemes.{Lexeme, unit, sign, opening, closing, bar, anchor, Lexemes}
 use Rattle.lic_ere.specs.Reading as reading
-use Rattle.lic_ere.specs.Reading.{LastUnit, GroupLevel, new_level, units, with_unit, with_alternative, level_tree, State, max_depth, meet, finish, read_on, start, reading}
+use Rattle.lic_ere.specs.Reading.{GroupLevel, new_level, units, with_unit, with_alternative, level_tree, State, max_depth, meet, read_on, start, reading}
 use Rattle.lic_ere.specs.Grammar.{IsUnit, plain, group, closes_nothing, IsSequence, no_unit, once, repeated, IsChoice, only, or, without_anchors, IsPattern}
 use Rattle.lic_ere.proofs.LexemeSpelling.{are_read}
 

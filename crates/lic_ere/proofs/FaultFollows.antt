@@ -14,9 +14,9 @@ use Rattle.lic_ere.specs.Lexemes.{Lexeme, unit, sign, opening, closing, bar, anc
 use Rattle.lic_ere.specs.Spelling.{IsLexeme}
 use Rattle.lic_ere.specs.Grammar.{without_anchors}
 use Rattle.lic_ere.specs.Reading as reading
-use Rattle.lic_ere.specs.Reading.{LastUnit, GroupLevel, new_level, with_unit, with_alternative, level_tree, repeat_last, with_sign, State, max_depth, meet, finish, read_on, start, reading}
+use Rattle.lic_ere.specs.Reading.{LastUnit, GroupLevel, new_level, with_unit, with_alternative, level_tree, State, max_depth, meet, finish, read_on, start, reading}
 use Rattle.lic_ere.specs.FirstFaults as faults
-use Rattle.lic_ere.specs.FirstFaults.{EndInNothing, EndInSign, EndInUnit, AreWhole, AreOpen, MayFollow, MayNotFollow, AllMayFollow, BeginWith, IsNoLexeme, IsFaultOf}
+use Rattle.lic_ere.specs.FirstFaults.{EndInNothing, EndInSign, EndInUnit, AreWhole, AreOpen, MayNotFollow, AllMayFollow, BeginWith, IsNoLexeme, IsFaultOf}
 use Rattle.lic_ere.proofs.FaultSpelled.{same_fault, not_failed, Ends, spelled}
 
 -- ---- lexemes one after the other

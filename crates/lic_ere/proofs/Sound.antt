@@ -10,7 +10,7 @@ use Rattle.lic_ere.specs.Faults.{fault_at, ◌>>=◌}
 use Rattle.lic_ere.specs.Located.{located}
 use Rattle.lic_ere.specs.Lexemes.{Lexeme, unit, sign, opening, closing, bar, anchor, lexemes}
 use Rattle.lic_ere.specs.Reading as reading
-use Rattle.lic_ere.specs.Reading.{LastUnit, last_units, GroupLevel, new_level, units, with_unit, with_alternative, level_tree, repeat_last, State, max_depth, meet, finish, read_on, start, reading}
+use Rattle.lic_ere.specs.Reading.{LastUnit, last_units, GroupLevel, new_level, units, with_unit, with_alternative, level_tree, State, meet, read_on, start, reading}
 use Rattle.lic_ere.specs.Grammar.{IsUnit, plain, group, closes_nothing, IsSequence, no_unit, once, repeated, IsChoice, only, or, without_anchors, IsPattern}
 use Rattle.lic_ere.proofs.LexemeSpelling.{are_spelled}
 use Rattle.lic_ere.proofs.Complete.{run}

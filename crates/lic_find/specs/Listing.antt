@@ -1,5 +1,5 @@
 -- The matches of a text as a list that computes.
-use Rattle.std.specs.Prelude.{ℕ, ◌==◌, ◌&&◌, ◌||◌, nat_lt, nat_le, Bool, true, false, List, length, map, filter, Option, Some, None}
+use Rattle.std.specs.Prelude.{ℕ, ◌==◌, ◌&&◌, ◌||◌, nat_le, Bool, true, false, List, length, map, filter, Option, Some, None}
 use Rattle.std.specs.List.{slice_get, flat_map, list_any, range_with_len}
 use Rattle.lic_norm.specs.Tokens.{TokenValue}
 use Rattle.lic_marks.specs.Deciding.{is_described}

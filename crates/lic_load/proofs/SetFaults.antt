@@ -4,7 +4,7 @@ use Rattle.std.proofs.lemmas.List.{length-map}
 use Rattle.std.specs.Global.{Global}
 use Rattle.std.specs.String.{string_bytes}
 use Rattle.lic_markup.specs.Parts.{TemplateValue}
-use Rattle.lic_set.specs.Sets.{Known, OccursTwice, pair_known, pairs_known}
+use Rattle.lic_set.specs.Sets.{OccursTwice, pair_known, pairs_known}
 use Rattle.lic_set.specs.declared.set.BuildFault.{BuildFault}
 use Rattle.lic_set.specs.declared.set.BuildFault.TheVariants.{TooMany, Twice, Memory}
 use Rattle.lic_load.specs.Loading.{IsFaultOfSet}

@@ -49,12 +49,6 @@ pub record Shifts (r : Core) (after entry : Bool) (c : ℕ) (old : List Bool) (a
   pub row : new ≡ take at old ++ flags_of r (shift r after entry (marks_of r (drop at old)) c)
       ++ drop (at + weight r) old
 
--- each flag or the other row's
-abbrev pub either_row : List Bool → List Bool → List Bool
-either_row [] ys = []
-either_row (x ∷ xs) [] = x ∷ xs
-either_row (x ∷ xs) (y ∷ ys) = (x || y) ∷ either_row xs ys
-
 -- how many flags are not set
 abbrev pub unset_count : List Bool → ℕ
 unset_count [] = 0

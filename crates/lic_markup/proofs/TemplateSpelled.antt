@@ -24,9 +24,9 @@ use Rattle.lic_markup.specs.Lines.{with_next, next_of, next_after}
 use Rattle.lic_markup.specs.Parts as parts
 use Rattle.lic_markup.specs.Parts.{Node, Reading, TemplateValue, sequence, sequence_weight, sequence_has_token, template_of}
 use Rattle.lic_markup.specs.Reading as reading
-use Rattle.lic_markup.specs.Reading.{PartLevel, State, new_level, with_part, meet, meet_text, meet_variable, meet_begin, meet_end, finish, read_on, read_elements, start, whole, reported, max_depth, max_length, max_weight}
+use Rattle.lic_markup.specs.Reading.{PartLevel, State, new_level, with_part, meet, meet_text, meet_variable, meet_end, finish, read_on, read_elements, start, whole, reported, max_depth, max_length, max_weight}
 use Rattle.lic_markup.specs.Templates as templates
-use Rattle.lic_markup.specs.Templates.{Item, letters, variable, begin, original_of, opens_line, follows, IsItem, is_piece, is_variable, is_begin, is_finish, AreItems, no_item, one_item, AreParts, IsTemplate}
+use Rattle.lic_markup.specs.Templates.{Item, letters, variable, begin, original_of, opens_line, follows, is_piece, is_variable, is_begin, is_finish, AreItems, no_item, one_item, AreParts, IsTemplate}
 use Rattle.lic_elements.proofs.FaultLemmas.{Gives-same}
 use Rattle.lic_elements.proofs.CutSpelled.{NotRefused, elements_spelled, elements_cut}
 use Rattle.lic_markup.proofs.LineSpelled.{follows-is, opens-text, opens-variable, opens-begin, opens-finish}

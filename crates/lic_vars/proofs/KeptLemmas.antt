@@ -5,7 +5,7 @@ use Rattle.std.proofs.lemmas.List.{get_or_append_left, get_or_default, get_or-ap
 use Rattle.lic_norm.specs.Tokens.{TokenValue}
 use Rattle.lic_spans.specs.declared.span.PlaceSpan.{PlaceSpan}
 use Rattle.lic_view.specs.PlaceSets.{ArePlaced}
-use Rattle.lic_vars.specs.Moves.{Move, optional}
+use Rattle.lic_vars.specs.Moves.{Move}
 use Rattle.lic_vars.specs.Cuts.{AreFinishing, last_moves, move_of}
 use Rattle.lic_vars.specs.Sets.{AreSuffixSets, HasOther, IsOther, IsSet, IsThere}
 use Rattle.lic_vars.specs.declared.steps.Step.{Step}

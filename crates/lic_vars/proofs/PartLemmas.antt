@@ -1,6 +1,6 @@
 -- The steps of a template are the moves of its nodes.
 use Rattle.std.proofs.Common.{◌≡◌, ℕ, zero, suc, arith, ◌+◌, ◌<◌, ◌≤◌, List, [], ◌∷◌, ◌++◌, length, drop, get_or, map, Vec, Global, String, sym, ap, ◌∙◌, subst, append_assoc}
-use Rattle.std.proofs.lemmas.List.{drop_more, drop_all, map-append, length-map}
+use Rattle.std.proofs.lemmas.List.{drop_more, map-append, length-map}
 use Rattle.std.proofs.lemmas.List.Elements.{All-push, All-append}
 use Rattle.std.specs.List.{All}
 use Rattle.std.specs.Str.{chars}
@@ -9,7 +9,7 @@ use Rattle.lic_ere.specs.Trees.{tree_of}
 use Rattle.lic_ere.specs.declared.ere.Ere.{Ere}
 use Rattle.lic_markup.specs.declared.part.Part.{Part, Part-F, fold-roll-Part}
 use Rattle.lic_markup.specs.declared.part.Part.TheVariants.{Text, Var, Optional, rolls-Text, rolls-Var, rolls-Optional}
-use Rattle.lic_markup.specs.Parts.{Node, Nodes, one_more, sequence, part_of, part_node}
+use Rattle.lic_markup.specs.Parts.{Node, one_more, sequence, part_of, part_node}
 use Rattle.lic_markup.specs.Parts as parts
 use Rattle.lic_markup.specs.Meaning.{tree_words}
 use Rattle.lic_markup.specs.PartTexts.{HasPieceTexts, HavePieceTexts}

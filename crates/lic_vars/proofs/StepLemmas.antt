@@ -16,7 +16,7 @@ use Rattle.lic_view.proofs.ViewPlaces.{end-within}
 use Rattle.lic_view.proofs.ViewSpans.{front-to}
 use Rattle.lic_vars.specs.Moves.{Move, text, variable, optional}
 use Rattle.lic_vars.specs.Making.{CanMake, LeastOf}
-use Rattle.lic_vars.specs.Cuts.{AreFinishing, IsOpen, LeadsTo, ReadsFrom, ReadsOn, lead, start}
+use Rattle.lic_vars.specs.Cuts.{AreFinishing, IsOpen, LeadsTo, ReadsFrom, ReadsOn, lead}
 use Rattle.lic_vars.specs.Recorded.{AreOfLeast, IsWalk, recorded}
 use Rattle.lic_vars.specs.Shortest.{IsShortest, LeadsWithin}
 use Rattle.lic_vars.specs.Values.{Assigned, covered}

@@ -1,13 +1,13 @@
 -- Where the tokens of a text begin and end, and the first token from a place on.
-use Rattle.std.proofs.Common.{◌≡◌, inl, inr, ℕ, zero, suc, ◌+◌, ◌<◌, ◌≤◌, true, false, List, length, sym, ap, ◌∙◌, arith}
+use Rattle.std.proofs.Common.{◌≡◌, inl, inr, ℕ, zero, suc, ◌+◌, ◌<◌, ◌≤◌, List, length, ap, ◌∙◌, arith}
 use Rattle.std.proofs.Math.Nat.{eq-or-lt_of_le}
 use Rattle.std.proofs.lemmas.Bool.{cases_lt, true≢false}
 use Rattle.lic_norm.specs.Tokens.{TokenValue}
 use Rattle.lic_norm.specs.Places.{IsTokenEnd, place_end, place_start}
-use Rattle.lic_places.specs.Places.{AreTexts, is_blank_at, spelling_of}
+use Rattle.lic_places.specs.Places.{AreTexts}
 use Rattle.lic_view.specs.Views.{IsFirstFrom}
 pub use Rattle.lic_places.proofs.TextReading.{end-within}
-use Rattle.lic_view.proofs.Laws.{no_blank-start, tokens_are_at-next, tokens_are_at-order}
+use Rattle.lic_view.proofs.Laws.{tokens_are_at-next, tokens_are_at-order}
 
 -- a token begins no earlier than the one before it ends
 pub start-after : (tokens : List TokenValue) (i : ℕ) → AreTexts tokens → suc i < length tokens → place_end tokens i ≤ place_start tokens (suc i)

@@ -1,8 +1,8 @@
 -- Some tokens of a text have a canonical spelling that is in that of all tokens.
-use Rattle.std.proofs.Common.{◌≡◌, ℕ, zero, suc, ◌+◌, ◌-◌, ◌<◌, ◌≤◌, List, [], ◌∷◌, ◌++◌, length, get_or, take, drop, refl, sym, ap, ap₂, ◌∙◌, arith, append_assoc, length-append, add-zero}
+use Rattle.std.proofs.Common.{◌≡◌, ℕ, zero, suc, ◌+◌, ◌-◌, ◌<◌, ◌≤◌, List, [], ◌∷◌, ◌++◌, length, get_or, take, drop, refl, sym, ap, ap₂, ◌∙◌, arith, append_assoc, length-append}
 use Rattle.std.specs.Prelude.{slice_range}
 use Rattle.std.specs.Str.{IsUtf8}
-use Rattle.std.proofs.lemmas.List.{length-map, length-take, length-take-le, length-drop, drop-map, take-map, take_at, take_all, drop_at, get_or-drop, get_or-take, take-take, drop-take}
+use Rattle.std.proofs.lemmas.List.{length-map, length-take, length-take-le, length-drop, drop-map, take-map, take_at, drop_at, get_or-drop, get_or-take, take-take, drop-take}
 use Rattle.std.proofs.lemmas.List.Elements.{All-take, All-drop}
 use Rattle.lic_phrases.specs.Spelling.{spelled, blank_if, is_parted, is_parted_at}
 use Rattle.lic_norm.specs.Tokens.{TokenValue}

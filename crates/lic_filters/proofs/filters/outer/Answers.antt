@@ -1,6 +1,5 @@
-use Rattle.std.proofs.Common.{◌≡◌, List, subst, sym, ap, ◌∙◌}
-use Rattle.lic_set.specs.declared.triple.Triple.{Triple}
-use Rattle.lic_filters.specs.Filters.{tight_of, outermost_of}
+use Rattle.std.proofs.Common.{◌≡◌, subst, sym, ◌∙◌}
+use Rattle.lic_filters.specs.Filters.{tight_of}
 use Rattle.lic_filters.proofs.FilterLaws.{tight_of-tight_of}
 use Rattle.lic_filters.proofs.filters.outer.Goals as goal
 

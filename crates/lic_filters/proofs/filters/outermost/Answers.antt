@@ -1,5 +1,4 @@
-use Rattle.std.proofs.Common.{◌≡◌, List, subst}
-use Rattle.lic_set.specs.declared.triple.Triple.{Triple}
+use Rattle.std.proofs.Common.{◌≡◌, subst}
 use Rattle.lic_filters.specs.Filters.{SameMembers, is_outer, outermost_of}
 use Rattle.lic_filters.proofs.filters.outermost.Goals as goal
 

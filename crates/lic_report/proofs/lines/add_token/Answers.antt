@@ -1,6 +1,6 @@
-use Rattle.std.proofs.Common.{◌≡◌, ◌≤◌, ◌-◌, List, ℕ, length, take, drop, get_or, ap, ap₂, sym, subst, ◌∙◌, arith}
+use Rattle.std.proofs.Common.{◌≡◌, ◌≤◌, ◌-◌, List, ℕ, length, take, drop, get_or, ap₂, sym, subst, ◌∙◌, arith}
 use Rattle.lic_phrases.specs.Spelling.{spelled}
-use Rattle.lic_norm.specs.Places.{place_start, texts_of}
+use Rattle.lic_norm.specs.Places.{place_start}
 use Rattle.lic_report.specs.Report.{no_token}
 use Rattle.lic_report.proofs.TokenLemmas.{letters, start-fits, text-fits, text-long, text-taken, line-is}
 use Rattle.lic_report.proofs.lines.add_token.Goals as goal

@@ -1,5 +1,5 @@
 -- One step more is left out.
-use Rattle.std.proofs.Common.{◌≡◌, ℕ, zero, suc, ◌-◌, ◌<◌, ◌≤◌, ◌++◌, inl, inr, List, [], map, refl, sym, ap, ◌∙◌, arith}
+use Rattle.std.proofs.Common.{◌≡◌, ℕ, suc, ◌-◌, ◌<◌, ◌≤◌, ◌++◌, inl, inr, List, [], map, refl, sym, ap, ◌∙◌, arith}
 use Rattle.std.proofs.lemmas.Bool.{cases_lt}
 use Rattle.lic_tokens.specs.declared.token.Span.{Span}
 use Rattle.lic_vars.specs.Moves.{Move}

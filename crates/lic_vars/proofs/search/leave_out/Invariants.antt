@@ -1,5 +1,5 @@
 -- The values so far, and those of the steps that are still to be left out.
-use Rattle.std.proofs.Common.{◌≡◌, ℕ, ◌-◌, ◌≤◌, List, ◌++◌, length, map}
+use Rattle.std.proofs.Common.{◌≡◌, ℕ, ◌-◌, ◌≤◌, List, ◌++◌, map}
 use Rattle.lic_tokens.specs.declared.token.Span.{Span}
 use Rattle.lic_vars.specs.Cuts.{last_moves}
 use Rattle.lic_vars.specs.Recorded.{recorded}

@@ -7,7 +7,7 @@ use Rattle.lic_norm.specs.Tokens.{TokenValue}
 use Rattle.lic_tokens.specs.declared.token.Span.{Span}
 use Rattle.lic_vars.specs.Making.{CanMake}
 use Rattle.lic_vars.specs.Moves.{Move}
-use Rattle.lic_vars.specs.Cuts.{ReadsOn, last_moves, move_of, moves_of}
+use Rattle.lic_vars.specs.Cuts.{ReadsOn, last_moves, move_of}
 use Rattle.lic_vars.specs.Recorded.{IsWalk, recorded}
 use Rattle.lic_vars.specs.Sets.{IsSet}
 use Rattle.lic_vars.specs.Values.{Assigned, covered}
