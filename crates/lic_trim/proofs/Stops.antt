@@ -1,12 +1,13 @@
 -- Where no piece can begin at a sequence any more, nothing beyond is a sequence.
-use Rattle.std.proofs.Common.{◌≡◌, ℕ, zero, suc, ◌+◌, ◌-◌, ◌<◌, ◌≤◌, Bool, true, false, ◌&&◌, ◌||◌, ◌==◌, List, [], ◌∷◌, length, take, reverse, refl, sym, ap, ◌∙◌, subst, ⊎_elim, arith}
-use Rattle.std.specs.Prelude.{slice_range, slice_index, slice_index_or, bytes_eq}
+use Rattle.std.proofs.Common.{◌≡◌, ℕ, zero, suc, ◌+◌, ◌-◌, ◌<◌, ◌≤◌, Bool, true, false, ◌&&◌, ◌||◌, ◌==◌, ◌⊎◌, inl, inr, List, [], ◌∷◌, length, take, reverse, refl, sym, ap, ◌∙◌, subst, ⊎_elim, arith}
+use Rattle.std.specs.Prelude.{slice_range, slice_index, slice_index_or, bytes_eq, nat_le}
 use Rattle.std.specs.List.{list_any}
 use Rattle.std.specs.Char.{is_whitespace}
-use Rattle.std.proofs.lemmas.Bool.{false≢true, and_parts, or_cases, or_left, or_right, cases_Bool, cases_lt}
+use Rattle.std.proofs.lemmas.Bool.{false≢true, le-leb, and_parts, or_cases, or_left, or_right, cases_Bool, cases_lt}
 use Rattle.std.proofs.lemmas.List.{length-reverse}
 use Rattle.std.proofs.lemmas.Slice.Eq.{bytes_eq-Decides}
 use Rattle.lic_trim.specs.Texts.{is_sequence, ends_in}
+use Rattle.lic_kind.specs.Kinds.{kind_of, is_mark_kind}
 use Rattle.lic_kind.specs.LineRules.{LineRules}
 use Rattle.lic_trim.specs.Lines.{is_space, is_separator, repeats}
 use Rattle.lic_trim.specs.Walks.{Side, walked, is_walked_piece, side_texts, side_spaced, side_repeated, AreSequences, IsStreakFront, AreShort}
@@ -42,9 +43,22 @@ ends_in-length last t text h = at (reverse text) refl h
         let text_is : t ≡ reverse rest = (bytes_eq-Decides t (reverse rest)).0 (and_parts (last c) (bytes_eq t (reverse rest)) e).1 in
         omega (arith, ap length same, length-reverse text, ap length text_is, length-reverse rest)
 
+-- no separator goes on beyond a place where its streak begins at no flagged place, or is of no mark
+pub breaks_at : (flags : List Bool) (line : List ℕ) (k first : ℕ) → IsStreakFront flags line (k + 1) first
+    → (nat_le first k && is_mark_kind (kind_of (slice_index line k))) ≡ false
+    → IsStreakFront flags line (k + 1) (k + 1) ⊎ (is_mark_kind (kind_of (slice_index line (k + 1 - 1))) ≡ false)
+breaks_at flags line k first front none =
+    let here : k + 1 - 1 ≡ k = omega arith in
+    let within : first ≤ k + 1 = front.within in
+    ⊎_elim
+    (λ low. inr (ap (λ i. is_mark_kind (kind_of (slice_index line i))) here
+    ∙ sym (ap (λ b. b && is_mark_kind (kind_of (slice_index line k))) (le-leb first k (omega arith))) ∙ none))
+    (λ high. let e : first ≡ k + 1 = omega arith in inl (subst (λ n. IsStreakFront flags line (k + 1) n) e front))
+    (cases_lt first (k + 1))
+
 module _ (rules : LineRules) (side : Side) (flags : List Bool) (line : List ℕ) (end longest reach : ℕ)
     (sequences : AreSequences (is_walked_piece rules side) flags line) (count : length flags ≡ end)
-    (front : IsStreakFront flags line end end) (short : AreShort rules side reach)
+    (breaks : IsStreakFront flags line end end ⊎ (is_mark_kind (kind_of (slice_index line (end - 1))) ≡ false)) (short : AreShort rules side reach)
     (above : (m : ℕ) → longest < m → m < end → is_sequence (is_walked_piece rules side) (take m line) ≡ false) (far : reach + longest + 1 < end) where
   abbrev pub p : List ℕ → Bool
   p = is_walked_piece rules side
@@ -80,12 +94,19 @@ module _ (rules : LineRules) (side : Side) (flags : List Bool) (line : List ℕ)
       (λ space. absurd (let parts = space_parts x space in omega (arith, ap length parts.1)))
       (λ mark.
       let parts = separator_parts x (and_parts rules.separators (is_separator x) mark).1 in
-      let other = front.least j (omega arith) (omega arith) flag in
       let at = λ (i : ℕ) (from : j ≤ i) (to : i < m + 1).
       let off : j + (i - j) ≡ i = omega arith in
       sym (slice_at line j (m + 1) (i - j) (omega arith) ∙ ap (slice_index line) off) ∙ parts.3 (i - j) (omega arith) in
+      let last = at (end - 1) (omega arith) (omega arith) in
+      ⊎_elim
+      (λ front.
+      let other = front.least j (omega arith) (omega arith) flag in
       let below : other.0 < end = other.2 in
-      absurd (other.3 (at other.0 other.1 (omega arith) ∙ sym (at (end - 1) (omega arith) (omega arith)))))
+      absurd (other.3 (at other.0 other.1 (omega arith) ∙ sym last)))
+      (λ plain.
+      let here : is_mark_kind (kind_of (slice_index line (end - 1))) ≡ true = ap (λ d. is_mark_kind (kind_of d)) last ∙ parts.2 in
+      absurd (false≢true (sym plain ∙ here)))
+      breaks)
       (or_cases (is_space x) marks second))
       (λ text.
       let found = any_some (λ t. bytes_eq (walked side t) x) (side_texts rules side) [] text in

@@ -1,5 +1,5 @@
 //! The longest sequence of pieces at a side of a line: its lead, or its tail.
-ghost use Rattle.std.specs.Prelude.{◌≡◌, ◌+◌, ◌-◌, ◌<◌, ◌≤◌, ◌&&◌, IfOk, false, length, map, reverse, replicate, bytes_eq};
+ghost use Rattle.std.specs.Prelude.{◌≡◌, ◌+◌, ◌-◌, ◌<◌, ◌≤◌, ◌&&◌, IfOk, false, length, map, nat_le, reverse, replicate, slice_index, bytes_eq};
 ghost use Rattle.std.specs.List.{list_any, All};
 ghost use Rattle.lic_kind.specs.Kinds.{kind_of, is_mark_kind};
 ghost use Rattle.lic_trim.specs.Sources.{chars_of};
@@ -286,6 +286,15 @@ fn piece_ends(
     space | separator | text | (spaced | repeated)
 }
 
+/// Whether the longest streak that reaches the place after k, of the character there, begins at a sequence and is of a mark: a
+/// separator may go on there.
+fn separator_goes_on(line: &[SourceChar], side: Side, k: usize, first: usize) -> bool
+    requires within { k < length line.now }
+    ensures { result ≡ (nat_le first k && is_mark_kind (kind_of (slice_index (walked side (chars_of line.now)) k))) }
+{
+    first <= k && is_mark(char_at(line, side, k))
+}
+
 /// How long the longest sequence of pieces is at this side of a line.
 pub fn longest_sequence(
     alloc: Global,
@@ -306,7 +315,7 @@ pub fn longest_sequence(
     let mut first = 0;
     for k in 0..line.len() {
         first = streak_front(&flags, line, side, k, first);
-        if first > k && k - longest > reach {
+        if k - longest > reach && !separator_goes_on(line, side, k, first) {
             return Ok(longest);
         }
         step_repeats(rules, side, &mut repeating, &flags, line, k);

@@ -1,5 +1,7 @@
 use Rattle.std.proofs.Common.{◌≡◌, ◌<◌, ◌≤◌, ◌+◌, ◌++◌, ◌∷◌, [], ◌∙◌, ℕ, Bool, true, cond, refl, sym, ap, subst, take, map, length, arith}
 use Rattle.std.specs.List.{list_any}
+use Rattle.std.specs.Prelude.{◌&&◌, nat_le, slice_index, false}
+use Rattle.lic_kind.specs.Kinds.{kind_of, is_mark_kind}
 use Rattle.std.proofs.lemmas.List.{length-append, length-map}
 use Rattle.lic_trim.specs.Sources.{chars_of}
 use Rattle.lic_trim.specs.Texts.{is_sequence, greatest}
@@ -7,7 +9,7 @@ use Rattle.lic_kind.specs.LineRules.{rules_of}
 use Rattle.lic_trim.specs.Walks.{walked, is_walked_piece, side_repeated, repeat_ends, ends_piece, AreSequences, IsStreakFront}
 use Rattle.lic_trim.proofs.FlagSteps.{sequence_value, sequences_start, front_start, sequences_push, front_push, greatest_more}
 use Rattle.lic_trim.proofs.SideEnds.{list_any-map, repeats_start, repeats_push, put_back}
-use Rattle.lic_trim.proofs.Stops.{nothing_beyond}
+use Rattle.lic_trim.proofs.Stops.{breaks_at, nothing_beyond}
 use Rattle.lic_trim.proofs.TailSequences.{greatest_above, greatest_stays}
 use Rattle.lic_trim.proofs.Walking.{length-walked_chars}
 use Rattle.lic_trim.proofs.sequences.longest_sequence.Goals as goal
@@ -27,8 +29,8 @@ loop-k-init c =
       repeats = c.in_ok-repeating.ensures ∙ repeats_start c.push.new.self.items line (side_repeated rules c.args.side);
     }
 
-pub returns-then-k-longest-clause-sequence : goal.returns-then-k-longest-clause-sequence
-returns-then-k-longest-clause-sequence c =
+pub returns-then-not-separator_goes_on-clause-sequence : goal.returns-then-not-separator_goes_on-clause-sequence
+returns-then-not-separator_goes_on-clause-sequence c =
     let rules = rules_of c.args.rules.now in
     let p = is_walked_piece rules c.args.side in
     let line = walked c.args.side (chars_of c.args.line.now) in
@@ -38,10 +40,9 @@ returns-then-k-longest-clause-sequence c =
     let test = λ (n : ℕ). is_sequence p (take n line) in
     let many = length-walked_chars c.args.side c.args.line.now in
     let moved = subst (λ l. IsStreakFront l line (k + 1) c.streak_front-first.result) c.deref.ensures.value c.streak_front-first.ensures in
-    let within : c.streak_front-first.result ≤ k + 1 = moved.within in
-    let here : c.streak_front-first.result ≡ k + 1 = omega arith in
-    let front : IsStreakFront flags line (k + 1) (k + 1) = subst (λ n. IsStreakFront flags line (k + 1) n) here moved in
-    let beyond = nothing_beyond rules c.args.side flags line (k + 1) c.loop-k.longest c.reach-reach.result known.sequences known.count front
+    let none : (nat_le c.streak_front-first.result k && is_mark_kind (kind_of (slice_index line k))) ≡ false = sym c.separator_goes_on.ensures ∙ search in
+    let beyond = nothing_beyond rules c.args.side flags line (k + 1) c.loop-k.longest c.reach-reach.result known.sequences known.count
+    (breaks_at flags line k c.streak_front-first.result moved none)
     (record { texts = c.reach-reach.ensures.texts; spaced = c.reach-reach.ensures.spaced; repeated = c.reach-reach.ensures.repeated })
     (λ m more below. greatest_above test k m (subst (λ n. n < m) known.best more) (omega arith)) (omega arith) in
     known.best ∙ sym (greatest_stays test k (length line) (omega arith) (λ m more le. beyond m (omega arith) le))
