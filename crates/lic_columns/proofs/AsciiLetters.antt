@@ -10,8 +10,9 @@ use Rattle.lic_kind.specs.declared.Kind.TheVariants as kind
 use Rattle.lic_kind.specs.Kinds.{kind_of, is_word_kind, is_mark_kind, letter_of}
 use Rattle.lic_kind.proofs.LetterLemmas.{spell-Mark}
 use Rattle.lic_kind.proofs.WordFoldings.{spell-ascii}
-use Rattle.lic_columns.specs.Bytes.{letter, has_letter}
-use Rattle.lic_columns.proofs.LineTokens.{letter_is, letter_below}
+use Rattle.lic_letters.specs.Bytes.{letter, has_letter}
+use Rattle.lic_letters.proofs.InPlace.{letter_is}
+use Rattle.lic_columns.proofs.LineTokens.{letter_below}
 
 and-false : (t : Bool) → (t && false) ≡ false
 and-false true = refl

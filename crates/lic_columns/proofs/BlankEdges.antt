@@ -8,7 +8,7 @@ use Rattle.lic_kind.specs.Kinds.{is_word_kind, is_mark_kind}
 use Rattle.lic_kind.proofs.KindLemmas.{kind_of-white}
 use Rattle.lic_trim.specs.declared.cut.LineCut.{LineCut}
 use Rattle.lic_trim.specs.Spaces.{TakesSpaces}
-use Rattle.lic_columns.specs.Bytes.{is_word, is_mark}
+use Rattle.lic_letters.specs.Bytes.{is_word, is_mark}
 use Rattle.lic_columns.specs.Edges.{AreBlank, edges_blanked}
 use Rattle.lic_columns.specs.Flags.{cleared, is_within}
 use Rattle.lic_columns.specs.Known.{Known, known_of, blanked, is_dark}

@@ -6,7 +6,7 @@ use Rattle.std.proofs.lemmas.Bool.{and_parts, or_cases, cases_Bool, cases_lt, lt
 use Rattle.std.proofs.lemmas.List.{length-map, get_or-map, get_or_past}
 use Rattle.std.proofs.lemmas.Str.{IsCharBoundary-start, IsCharBoundary-end, IsCharBoundary-before_ascii, IsCharBoundary-after_ascii}
 use Rattle.lic_kind.specs.Kinds.{kind_of, is_word_kind}
-use Rattle.lic_columns.specs.Bytes.{letter, is_word, is_mark, is_high}
+use Rattle.lic_letters.specs.Bytes.{letter, is_word, is_mark, is_high}
 use Rattle.lic_columns.specs.Cells.{Blank, AreCells, cells_of, firsts, lasts, spans, starts_of, ends_of}
 use Rattle.lic_columns.specs.Masks.{flag_at, flag_before}
 use Rattle.lic_columns.specs.Places.{places}

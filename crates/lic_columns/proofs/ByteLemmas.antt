@@ -9,9 +9,10 @@ use Rattle.lic_kind.specs.declared.Kind.TheVariants.{Blank, Dropped, Mark, Word}
 use Rattle.lic_kind.specs.Kinds.{kind_of, is_word_kind, is_mark_kind, is_dash, is_quote, letter_of, spell}
 use Rattle.lic_kind.proofs.LetterLemmas.{spell-Mark}
 use Rattle.lic_kind.proofs.WordFoldings.{spell-ascii}
-use Rattle.lic_columns.specs.Bytes.{is_word, is_mark, letter}
+use Rattle.lic_letters.specs.Bytes.{is_word, is_mark, letter}
 use Rattle.lic_columns.specs.Classes.{class_of}
-use Rattle.lic_columns.proofs.Lanes.{map_same, every_below}
+use Rattle.lic_letters.proofs.Lanes.{every_below}
+use Rattle.lic_columns.proofs.Lanes.{map_same}
 
 word_class : (b : ℕ) → b < 256 → (class_of b == 0) ≡ is_word b
 unfolding kind_of

@@ -6,10 +6,10 @@ use Rattle.std.proofs.lemmas.Nat.{and_le_l}
 use Rattle.std.proofs.lemmas.Nat.Bits.{bit_at-trailing_zeros}
 use Rattle.std.specs.Prelude.{◌==◌, bit_and}
 use Rattle.std.specs.Int.{trailing_zeros}
-use Rattle.lic_columns.specs.Bytes.{letter}
+use Rattle.lic_letters.specs.Bytes.{letter}
 use Rattle.lic_columns.specs.Masks.{flag_at, flag_before, IsColumn, EndsBefore}
 use Rattle.lic_columns.specs.Marks.{HaveLetters, is_same_as_next, same_as_next, middles, kept_in}
-use Rattle.lic_columns.proofs.BitLemmas.{has_bit_and}
+use Rattle.lic_letters.proofs.BitLemmas.{has_bit_and}
 use Rattle.lic_columns.proofs.MarkLemmas.{same_at, kept_at}
 use Rattle.lic_trim.specs.PieceLengths.{has_bit}
 

@@ -19,7 +19,7 @@ use Rattle.lic_trim.specs.declared.cut.LineCut.{LineCut}
 use Rattle.lic_trim.specs.declared.source.SourceChar.{SourceChar}
 use Rattle.lic_trim.proofs.AsciiLemmas.{chars_of-placed, length-placed}
 use Rattle.lic_trim.proofs.TailSequences.{greatest_le}
-use Rattle.lic_columns.specs.Bytes.{is_word, is_mark, is_feed}
+use Rattle.lic_letters.specs.Bytes.{is_word, is_mark, is_feed}
 use Rattle.lic_columns.specs.Edges.{AreBlank, byte_lines, edges_blanked, lines_blanked, AreCleared}
 use Rattle.lic_columns.specs.Flags.{cleared}
 use Rattle.lic_columns.specs.Known.{Known, IsText, known_of, is_dark}
@@ -29,7 +29,7 @@ use Rattle.lic_columns.specs.Tokens.{text_spans}
 use Rattle.lic_columns.proofs.BlankEdges.{white_is_blank, still_blank}
 use Rattle.lic_columns.proofs.EdgeLemmas.{standing, length-standing, edges_are, found, standing_line, lines_found}
 use Rattle.lic_columns.proofs.FlagLemmas.{length-cleared}
-use Rattle.lic_columns.proofs.Lanes.{every_below}
+use Rattle.lic_letters.proofs.Lanes.{every_below}
 use Rattle.lic_columns.proofs.LineTokens.{IsOfCells, tokens_of_cells, ascii_is}
 use Rattle.lic_columns.proofs.TextLemmas.{IsText-blanked}
 

@@ -5,7 +5,7 @@ use Rattle.std.proofs.lemmas.Nat.{leading_top, shr_high}
 use Rattle.std.proofs.lemmas.Nat.Bits.{bit_at-trailing_zeros, bit_at_above}
 use Rattle.std.specs.Prelude.{◌==◌, bit_and}
 use Rattle.std.specs.Int.{bit_at, bit_not, trailing_zeros, leading_zeros}
-use Rattle.lic_columns.proofs.BitLemmas.{has_bit_and, has_bit_not, has_bit_below, has_bit_zero}
+use Rattle.lic_letters.proofs.BitLemmas.{has_bit_and, has_bit_not, has_bit_below, has_bit_zero}
 use Rattle.lic_trim.specs.PieceLengths.{has_bit}
 
 -- The search has come to column k: of the places of the range before it none is wanted, and the mask has a bit at each of its own that is wanted

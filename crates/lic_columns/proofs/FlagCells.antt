@@ -10,7 +10,7 @@ use Rattle.lic_lines.specs.Streaks.{same_mark, same_family}
 use Rattle.lic_lines.proofs.Gaps.{is_word, is_mark}
 use Rattle.lic_columns.specs.Cells as columns
 use Rattle.lic_columns.specs.Cells.{cell_of, cells_of}
-use Rattle.lic_columns.specs.Bytes.{letter}
+use Rattle.lic_letters.specs.Bytes.{letter}
 use Rattle.lic_columns.specs.Masks.{flag_at, flag_before}
 use Rattle.lic_columns.specs.Marks.{is_same_as_next, same_as_next, middles, is_in_separator, is_joining, is_joined, joined_marks, without_separators}
 use Rattle.lic_columns.proofs.FlagLemmas.{length-listed, flag_at-listed}

@@ -6,7 +6,8 @@ use Rattle.std.proofs.lemmas.List.FromFn.{get_or-map-range_with_len, length-map-
 use Rattle.std.specs.List.{range_with_len}
 use Rattle.lic_columns.specs.Masks.{flag_at, flag_before, IsMask}
 use Rattle.lic_columns.specs.Flags.{bits_of, has, flags_in, is_within, cleared}
-use Rattle.lic_columns.proofs.BitLemmas.{has_bit_zero, has_bit_above, within_is, within_before, within_after}
+use Rattle.lic_letters.proofs.BitLemmas.{has_bit_zero, has_bit_above}
+use Rattle.lic_columns.proofs.BitLemmas.{within_is, within_before, within_after}
 use Rattle.lic_trim.specs.PieceLengths.{has_bit}
 
 pub length-bits_of : (n mask : ℕ) → length (bits_of n mask) ≡ n

@@ -1,18 +1,19 @@
 -- The tokens of lines of simple characters at the start of bytes.
-use Rattle.std.proofs.Common.{◌≡◌, ℕ, ◌+◌, ◌-◌, ◌<◌, ◌≤◌, Bool, true, List, [], ◌∷◌, ◌++◌, length, map, take, drop, get_or, refl, sym, ap, ap₂, subst, ◌∙◌, arith, take-append-drop, take_at, length-take-le}
+use Rattle.std.proofs.Common.{◌≡◌, ℕ, ◌+◌, ◌-◌, ◌<◌, ◌≤◌, Bool, true, List, length, map, get_or, refl, sym, ap, ap₂, subst, ◌∙◌, arith}
 use Rattle.std.specs.Prelude.{chars, IsUtf8, slice_index}
 use Rattle.std.specs.Str.{IsCharBoundary}
 use Rattle.std.proofs.lemmas.List.{length-map}
-use Rattle.std.proofs.lemmas.Str.{chars-append, encodes-chars}
+use Rattle.std.proofs.lemmas.Str.{encodes-chars}
 use Rattle.lic_kind.specs.LineRules.{LineRules}
-use Rattle.lic_columns.specs.Bytes.{letter, is_word, is_mark}
+use Rattle.lic_letters.specs.Bytes.{letter, is_word, is_mark}
 use Rattle.lic_columns.specs.Cells.{AreCells, Span, cells_of, spans, starts_of, ends_of}
 use Rattle.lic_columns.specs.Known.{IsText, known_of}
 use Rattle.lic_columns.specs.Marks.{HaveLetters, joined_marks}
 use Rattle.lic_columns.specs.PlainLines.{ArePlainLines, HaveFirstTokens}
-use Rattle.lic_columns.specs.Simple.{AreSimple, IsAlone, IsSpelled, all_in_place}
+use Rattle.lic_letters.specs.Simple.{IsSpelled, all_in_place}
 use Rattle.lic_columns.specs.SpanTokens.{span_tokens, spans_by}
 use Rattle.lic_columns.specs.Tokens.{kept_marks, text_spans}
+use Rattle.lic_letters.proofs.InPlace.{places_size}
 use Rattle.lic_columns.proofs.Borders.{starts_between, ends_between}
 use Rattle.lic_columns.proofs.CellLemmas.{length-cells}
 use Rattle.lic_columns.proofs.ColumnLemmas.{kept_is_mark}
@@ -21,38 +22,7 @@ use Rattle.lic_columns.proofs.MarkLemmas.{joined_are_cells}
 use Rattle.lic_columns.proofs.SimpleLetters.{simple_letters}
 use Rattle.lic_columns.proofs.SimpleLines.{simple_lines_are}
 use Rattle.lic_columns.proofs.SpanTokenLemmas.{spans_by-own, spans_bounded, bounded_at, length-ends}
-use Rattle.lic_columns.proofs.SpelledFronts.{placed_both}
 use Rattle.lic_columns.proofs.TextLemmas.{IsText-known_of, kept_length, kept_are_apart}
-use Rattle.lic_columns.proofs.WideMarks.{places_size}
-
--- ---- a beginning of simple characters
-
-alone_front : (c : ℕ) (xs ys : List ℕ) → IsAlone c (xs ++ ys) → IsAlone c xs
-alone_front c [] ys alone = tt
-alone_front c (x ∷ xs) ys alone = alone
-
-simple_front : (xs ys : List ℕ) → AreSimple (xs ++ ys) → AreSimple xs
-simple_front [] ys are = tt
-simple_front (x ∷ xs) ys are = (are.0, alone_front x xs ys are.1, simple_front xs ys are.2)
-
--- a beginning of a text of simple characters, and what it is spelled by
-pub front_spelled : (text spelled : List ℕ) (n : ℕ) → IsSpelled text spelled → n ≤ length text → IsUtf8 (take n text)
-    → IsSpelled (take n text) (take n spelled)
-front_spelled text spelled n is within utf8 =
-    let front = take n text in
-    let xs = chars front in
-    let ys = chars (drop n text) in
-    let all : chars text ≡ xs ++ ys = ap chars (sym (take-append-drop n text)) ∙ chars-append front (drop n text) utf8 in
-    let are : AreSimple xs = simple_front xs ys (subst AreSimple all is.simple) in
-    let both : spelled ≡ all_in_place xs ++ all_in_place ys = is.is ∙ ap all_in_place all ∙ placed_both xs ys in
-    let long : length (all_in_place xs) ≡ n = sym (places_size xs are) ∙ ap length (encodes-chars front utf8) ∙ length-take-le n text within in
-    record {
-      utf8 = utf8;
-      simple = are;
-      is = ap (take n) both ∙ take_at (all_in_place xs) (all_in_place ys) n long;
-    }
-
--- ---- its tokens
 
 module _ (text spelled : List ℕ) (is : IsSpelled text spelled) where
   abbrev source : List ℕ

@@ -3,7 +3,7 @@ use Rattle.std.proofs.Common.{◌≡◌, ℕ, ◌^◌, ◌<◌, ◌≤◌, Bool,
 use Rattle.std.proofs.lemmas.Bool.{cases_lt}
 use Rattle.std.proofs.lemmas.List.{get_or-map, get_or_past, get_or-take, length-map, length-take-le, map-append, get_or_default}
 use Rattle.lic_kind.specs.Kinds.{kind_of}
-use Rattle.lic_columns.specs.Bytes.{letter, is_word, is_mark, is_feed}
+use Rattle.lic_letters.specs.Bytes.{letter, is_word, is_mark, is_feed}
 use Rattle.lic_columns.specs.Masks.{flag_at, IsMask}
 use Rattle.lic_columns.specs.Flags.{bits_of}
 use Rattle.lic_columns.specs.Known.{Known, HasLength, known_of, followed_by}

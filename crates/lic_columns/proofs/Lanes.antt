@@ -1,10 +1,10 @@
--- Vector operations, lane by lane.
-use Rattle.std.proofs.Common.{◌≡◌, ℕ, zero, suc, ◌+◌, ◌-◌, ◌*◌, ◌/◌, ◌%◌, ◌^◌, ◌<◌, ◌≤◌, Bool, true, false, cond, ◌&&◌, inl, inr, eqb, List, [], ◌∷◌, map, length, get_or, replicate, bit_and, refl, sym, ap, ◌∙◌, subst, arith, w8, Fits, eqb-true}
+-- Vectors of 64 bytes, lane by lane.
+use Rattle.std.proofs.Common.{◌≡◌, ℕ, ◌+◌, ◌*◌, ◌/◌, ◌%◌, ◌^◌, ◌<◌, Bool, true, false, cond, eqb, List, [], ◌∷◌, map, length, get_or, replicate, bit_and, refl, sym, ap, ◌∙◌, subst, arith, w8, Fits, eqb-true}
 use Rattle.std.proofs.lemmas.List.{get_or-map, length-map, ext_get_or}
-use Rattle.std.proofs.lemmas.Bool.{cases_eq, and_parts}
 use Rattle.std.proofs.lemmas.Nat.{and_le_r}
 use Rattle.std.proofs.lemmas.Simd.{Each1-all, Each1-weaker, Each1-zip2, Each2-splat, below_from_Fits, length-zip2, mask_l-mod, swz_l, SwzOk, SwzOk-from_below, length-swz_l, get_or-swz_l_below, tops_compared, get_or-zip2}
 use lib.Lanes.{zip2, sel_l, mask_l, top, Each1}
+use Rattle.lic_letters.proofs.Lanes.{lane_fits, below, every_below, down, all_ones, tops, mask_of}
 use Rattle.lic_columns.specs.Masks.{IsMask}
 use Rattle.lic_columns.proofs.MaskLemmas.{IsMask-mask_l}
 use Rattle.lic_trim.specs.PieceLengths.{has_bit}
@@ -12,32 +12,12 @@ use Rattle.lic_trim.specs.PieceLengths.{has_bit}
 abbrev pub IsBlock : List ℕ → Type 0
 IsBlock v = (length v ≡ 64) × Each1 (Fits w8) v
 
-pub lane_fits : (v : List ℕ) (i : ℕ) → Each1 (Fits w8) v → get_or v i 0 < 256
-lane_fits [] i h = omega arith
-lane_fits (x ∷ xs) zero h = h.0.fits
-lane_fits (x ∷ xs) (suc i) h = lane_fits xs i h.1
-
 -- functions that agree on bytes
 pub map_same : {A : Type 0} (f g : ℕ → A) → ((b : ℕ) → b < 256 → f b ≡ g b) → (v : List ℕ) → Each1 (Fits w8) v → map f v ≡ map g v
 map_same f g same [] h = refl
 map_same f g same (x ∷ xs) h = ap (λ y. y ∷ map f xs) (same x h.0.fits) ∙ ap (λ ys. g x ∷ ys) (map_same f g same xs h.1)
 
--- what holds of each number below n, by computing
-abbrev pub below : (ℕ → Bool) → ℕ → Bool
-below p zero = true
-below p (suc n) = p n && below p n
-
-pub every_below : (p : ℕ → Bool) (n : ℕ) → below p n ≡ true → (i : ℕ) → i < n → p i ≡ true
-every_below p zero h i l = absurd (omega arith)
-every_below p (suc n) h i l = elim (cases_eq i n) [
-  | inl same ↦ ap p same ∙ (and_parts (p n) (below p n) h).0
-  | inr other ↦ every_below p n (and_parts (p n) (below p n) h).1 i (omega (arith, other))
-]
-
 -- ---- look-ups
-
-abbrev pub down : ℕ → ℕ → ℕ
-down a b = a / 2 ^ b
 
 pub high_ok : (v : List ℕ) → IsBlock v → SwzOk w8 16 64 0 (zip2 down v (replicate 64 4))
 high_ok v fits =
@@ -74,23 +54,6 @@ looked_up t g v js fits e small alike =
     ∙ ap (λ k. get_or t k 0) is ∙ sym (get_or-map (λ x. get_or t (g x) 0) v i 0 0 within))
 
 -- ---- comparisons
-
-abbrev pub all_ones : Bool → ℕ
-all_ones b = cond b (2 ^ 8 - 1) 0
-
-top_is : (b : Bool) → top 7 (all_ones b) ≡ b
-top_is true = refl
-top_is false = refl
-
-tops : (p : ℕ → Bool) (xs : List ℕ) → map (top 7) (map (λ x. all_ones (p x)) xs) ≡ map p xs
-tops p [] = refl
-tops p (x ∷ xs) = ap (λ b. b ∷ map (top 7) (map (λ x. all_ones (p x)) xs)) (top_is (p x)) ∙ ap (λ bs. p x ∷ bs) (tops p xs)
-
--- the mask of a comparison
-pub mask_of : (p : ℕ → Bool) (xs zs : List ℕ) → length xs ≤ 64 → zs ≡ map (λ x. all_ones (p x)) xs
-    → mask_l (map (top 7) zs) % 2 ^ 64 ≡ mask_l (map p xs)
-mask_of p xs zs few e =
-    ap (λ l. mask_l l % 2 ^ 64) (ap (map (top 7)) e ∙ tops p xs) ∙ mask_l-mod (map p xs) 64 (omega (arith, few, length-map xs p))
 
 pub IsMask-compared : (p : ℕ → Bool) (xs zs : List ℕ) → length xs ≡ 64 → zs ≡ map (λ x. all_ones (p x)) xs
     → IsMask (mask_l (map (top 7) zs) % 2 ^ 64) (map p xs)

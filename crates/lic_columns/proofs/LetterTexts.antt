@@ -11,12 +11,13 @@ use Rattle.std.proofs.lemmas.Str.Ascii.{IsAscii-cons, IsAscii-nil}
 use Rattle.lic_kind.specs.declared.Kind.TheVariants as kind
 use Rattle.lic_kind.specs.Kinds.{kind_of, spell}
 use Rattle.lic_kind.proofs.LetterLemmas.{word_letters}
-use Rattle.lic_columns.specs.Bytes.{letter}
+use Rattle.lic_letters.specs.Bytes.{letter}
 use Rattle.lic_columns.specs.PlainLines.{IsOfWord}
-use Rattle.lic_columns.specs.Simple.{IsSimple, IsSimpleLetter, AreSimple, in_place, in_place_of, all_in_place}
+use Rattle.lic_letters.specs.Simple.{IsSimple, IsSimpleLetter, AreSimple, in_place, in_place_of, all_in_place}
 use Rattle.lic_columns.proofs.AsciiLetters.{letter_low, letters_ascii}
 use Rattle.lic_columns.proofs.Borders.{mark_low}
-use Rattle.lic_columns.proofs.WideTexts.{letter_in_place, mark_shape, own_letters}
+use Rattle.lic_letters.proofs.InPlace.{letter_in_place}
+use Rattle.lic_columns.proofs.WideTexts.{mark_shape, own_letters}
 
 -- ---- bytes of a character beyond ASCII
 

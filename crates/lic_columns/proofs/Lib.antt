@@ -18,10 +18,7 @@ pub mod FlagCells
 pub mod WideTokens
 pub mod LineTokens
 pub mod WideTexts
-pub mod FirstBytes
 pub mod WideMarks
-pub mod SpelledFronts
-pub mod WideBytes
 pub mod SimpleLetters
 pub mod EdgeLemmas
 pub mod BlankEdges
@@ -32,10 +29,5 @@ pub mod AsciiLetters
 pub mod Listed
 pub mod ReadLines
 pub mod Borders
-pub mod PlainLines
 pub mod LetterTexts
 pub mod FrontLines
-pub mod OwnLanes
-pub mod OwnLetters
-pub mod OwnRuns
-pub mod TextEdges

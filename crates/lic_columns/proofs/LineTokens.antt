@@ -1,8 +1,8 @@
 -- The tokens of spans of a text of ASCII are its first tokens.
-use Rattle.std.proofs.Common.{◌≡◌, ℕ, suc, ◌+◌, ◌-◌, ◌<◌, Bool, true, false, not, ◌&&◌, ◌||◌, ◌==◌, if◌then◌else◌, List, [], ◌∷◌, ◌++◌, drop, map, get_or, refl, sym, ap, ap₂, ◌∙◌, arith, subst}
+use Rattle.std.proofs.Common.{◌≡◌, ℕ, suc, ◌+◌, ◌-◌, ◌<◌, Bool, true, false, not, ◌&&◌, ◌||◌, ◌==◌, if◌then◌else◌, List, [], ◌∷◌, ◌++◌, drop, map, refl, sym, ap, ap₂, ◌∙◌, arith, subst}
 use Rattle.std.specs.Prelude.{IsAscii, encode_utf8_all}
 use Rattle.std.specs.Char.{len_utf8, to_ascii_lowercase}
-use Rattle.std.proofs.lemmas.Bool.{agree_below_at, lt-ltb, le-ltb, cond-true}
+use Rattle.std.proofs.lemmas.Bool.{agree_below_at, lt-ltb, le-ltb}
 use Rattle.std.proofs.lemmas.Str.{len_utf8_ascii, encode_ascii}
 use Rattle.std.proofs.lemmas.Str.Ascii.{lowercase_ascii}
 use Rattle.lic_kind.specs.declared.Kind.{Kind}
@@ -20,15 +20,16 @@ use Rattle.lic_lines.specs.Cells.{cell_of}
 use Rattle.lic_lines.specs.Streaks.{streaks_joined, with_joined, without_separators}
 use Rattle.lic_lines.specs.Tokens.{both_words, tokens_from, tokens_after}
 use Rattle.lic_lines.proofs.Gaps.{is_word, is_mark}
-use Rattle.lic_columns.specs.Bytes as bytes
-use Rattle.lic_columns.specs.Bytes.{letter}
+use Rattle.lic_letters.specs.Bytes as bytes
+use Rattle.lic_letters.specs.Bytes.{letter}
 use Rattle.lic_columns.specs.Cells.{cells_of, spans}
 use Rattle.lic_columns.specs.Known.{Known, known_of}
 use Rattle.lic_columns.specs.Marks as taken
 use Rattle.lic_columns.specs.Marks.{is_joining, joined_marks}
 use Rattle.lic_columns.specs.SpanTokens.{span_tokens}
 use Rattle.lic_columns.specs.Tokens.{kept_marks, text_cells, text_spans}
-use Rattle.lic_columns.proofs.Lanes.{every_below}
+use Rattle.lic_letters.proofs.InPlace.{letter_is}
+use Rattle.lic_letters.proofs.Lanes.{every_below}
 use Rattle.lic_columns.proofs.FirstTokens.{cell_tokens}
 use Rattle.lic_columns.proofs.SpanLemmas.{column_cells, IsByte, CellFits, Fit, marks_fit, tokens_are}
 use Rattle.lic_columns.proofs.Separators.{parted, parted-alike}
@@ -99,10 +100,6 @@ module _ (at : ℕ) (text : List ℕ) (cells : List Cell) (known : Known) (is : 
 -- the character of a byte at a place
 abbrev pub byte_char : ℕ → ℕ → SourceChar
 byte_char at b = record { char = b; start = at; end = at + len_utf8 b }
-
-pub letter_is : (b l : ℕ) → b < 128 → spell b ≡ l ∷ [] → (is_word_kind (kind_of b) || is_mark_kind (kind_of b)) ≡ true → letter b ≡ l
-letter_is b l small e has =
-    cond-true (bytes.has_letter b) _ _ (ap₂ (λ t u. t && u) (lt-ltb b 128 small) has) ∙ ap (λ s. get_or s 0 0) e
 
 byte_is : (at b l : ℕ) → b < 128 → l < 128 → spell b ≡ l ∷ [] → (is_word_kind (kind_of b) || is_mark_kind (kind_of b)) ≡ true
     → IsByte at b (byte_char at b)

@@ -6,7 +6,7 @@ use Rattle.std.specs.Prelude.{◌==◌, bit_and}
 use Rattle.lic_columns.specs.Masks.{flag_at, flag_before}
 use Rattle.lic_columns.specs.Cells.{AreCells}
 use Rattle.lic_columns.specs.Marks.{is_same_as_next, same_as_next, is_joined, joined_marks, kept_by, is_in_separator, is_joining, is_middle, middles, without_separators}
-use Rattle.lic_columns.proofs.BitLemmas.{has_bit_and, has_bit_zero}
+use Rattle.lic_letters.proofs.BitLemmas.{has_bit_and, has_bit_zero}
 use Rattle.lic_columns.proofs.FlagLemmas.{length-listed, flag_at-listed}
 use Rattle.lic_trim.specs.PieceLengths.{has_bit}
 

@@ -1,19 +1,16 @@
 -- Masks and the lists of flags that they are of.
-use Rattle.std.proofs.Common.{◌≡◌, ℕ, zero, suc, ◌<◌, ◌^◌, Bool, true, false, cond, List, length, get_or, refl, ap, ◌∙◌, sym, subst, arith}
-use Rattle.std.proofs.lemmas.Simd.{bit_mask_l, mask_l-lt}
+use Rattle.std.proofs.Common.{◌≡◌, ℕ, zero, suc, ◌<◌, ◌^◌, Bool, List, length, refl, ◌∙◌, sym, subst, arith}
+use Rattle.std.proofs.lemmas.Simd.{mask_l-lt}
 use Rattle.std.proofs.lemmas.Nat.Bits.{same_from_bits, bit_at-lt}
 use Rattle.std.specs.Prelude.{◌==◌}
 use Rattle.std.specs.Int.{bit_at}
 use Rattle.std.specs.Simd.Lanes.{mask_l}
+use Rattle.lic_letters.proofs.BitLemmas.{has_bit-mask_l}
 use Rattle.lic_columns.specs.Masks.{IsMask}
 use Rattle.lic_trim.specs.PieceLengths.{has_bit}
 
-one_if : (b : Bool) → (cond b 1 0 == 1) ≡ b
-one_if true = refl
-one_if false = refl
-
 pub IsMask-mask_l : (flags : List Bool) → IsMask (mask_l flags) flags
-IsMask-mask_l flags = record { bit = λ k. ap (λ n. n == 1) (bit_mask_l flags k) ∙ one_if (get_or flags k false) }
+IsMask-mask_l flags = record { bit = has_bit-mask_l flags }
 
 same_bit : (m n : ℕ) → m < 2 → n < 2 → (m == 1) ≡ (n == 1) → m ≡ n
 same_bit zero zero p q e = refl

@@ -9,7 +9,7 @@ use Rattle.std.specs.Int.{trailing_zeros}
 use Rattle.lic_columns.specs.Masks.{flag_at}
 use Rattle.lic_columns.specs.Flags.{bits_of}
 use Rattle.lic_columns.specs.Places.{places}
-use Rattle.lic_columns.proofs.BitLemmas.{has_bit_zero}
+use Rattle.lic_letters.proofs.BitLemmas.{has_bit_zero}
 use Rattle.lic_columns.proofs.FlagLemmas.{length-bits_of, flag_at-bits_of}
 use Rattle.lic_trim.proofs.LowestBit.{without_lowest, lowest_cleared, others_stay}
 use Rattle.lic_trim.specs.PieceLengths.{has_bit}

@@ -8,7 +8,7 @@ use Rattle.lic_lines.specs.Cells.{cells_of}
 use Rattle.lic_lines.specs.Streaks.{streaks_joined}
 use Rattle.lic_trim.specs.Sources.{placed}
 use Rattle.lic_lines.specs.Tokens.{first_tokens}
-use Rattle.lic_columns.specs.Bytes.{letter}
+use Rattle.lic_letters.specs.Bytes.{letter}
 use Rattle.lic_columns.specs.Cells.{Cell, cell_of, spans, starts_of, ends_of}
 use Rattle.lic_columns.specs.Edges.{byte_lines, lines_blanked}
 use Rattle.lic_columns.specs.Known.{Known, IsText, known_of}

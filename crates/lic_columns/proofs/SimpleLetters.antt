@@ -5,14 +5,15 @@ use Rattle.std.specs.Char.{len_utf8}
 use Rattle.std.proofs.lemmas.Bool.{cases_lt}
 use Rattle.std.proofs.lemmas.List.{length-map, length-replicate, get_or-replicate}
 use Rattle.std.proofs.lemmas.Str.{encode_ascii, length-encode}
-use Rattle.lic_columns.specs.Bytes as bytes
-use Rattle.lic_columns.specs.Bytes.{letter}
+use Rattle.lic_letters.specs.Bytes as bytes
+use Rattle.lic_letters.specs.Bytes.{letter}
 use Rattle.lic_columns.specs.Marks.{HaveLetters}
 use Rattle.lic_columns.specs.Masks.{flag_at}
-use Rattle.lic_columns.specs.Simple.{AreSimple, in_place, all_in_place}
+use Rattle.lic_letters.specs.Simple.{AreSimple, in_place, all_in_place}
 use Rattle.lic_columns.proofs.WideTexts.{shape_of, AsciiShape, PlainShape, MarkShape}
-use Rattle.lic_columns.proofs.FirstBytes.{encoded_two, encoded_three, encoded_four, Starts, starts}
-use Rattle.lic_columns.proofs.WideMarks.{wide_lead, is_big, places_size}
+use Rattle.lic_letters.proofs.InPlace.{places_size}
+use Rattle.lic_letters.proofs.FirstBytes.{encoded_two, encoded_three, encoded_four, Starts, starts}
+use Rattle.lic_columns.proofs.WideMarks.{wide_lead, is_big}
 
 -- the next byte, where it is a mark and the same as this, has one letter with it
 abbrev SameLetter : ℕ → ℕ → List ℕ → List ℕ → Type 0

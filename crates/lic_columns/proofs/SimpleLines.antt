@@ -19,11 +19,11 @@ use Rattle.lic_lines.specs.Cells.{cell_of, cells_of, left_of, line_cells}
 use Rattle.lic_lines.specs.Streaks.{streaks_joined}
 use Rattle.lic_lines.specs.Tokens.{first_tokens}
 use Rattle.lic_columns.specs.Known.{known_of}
-use Rattle.lic_columns.specs.Simple.{IsSimple, AreSimple, TakeSpaces, all_in_place}
+use Rattle.lic_letters.specs.Simple.{IsSimple, AreSimple, TakeSpaces, all_in_place}
 use Rattle.lic_columns.specs.SpanTokens.{span_tokens}
 use Rattle.lic_columns.specs.Tokens.{text_spans}
 use Rattle.lic_columns.proofs.EdgeLemmas.{spaces, standing, in_three, length_first, length_last, found, standing_line, lines_found}
-use Rattle.lic_columns.proofs.Lanes.{every_below}
+use Rattle.lic_letters.proofs.Lanes.{every_below}
 use Rattle.lic_columns.proofs.WideMarks.{simple_tokens_are}
 use Rattle.lic_columns.proofs.WideTexts.{joined_mark}
 

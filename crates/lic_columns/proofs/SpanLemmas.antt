@@ -11,7 +11,7 @@ use Rattle.lic_lines.specs.Streaks.{same_family}
 use Rattle.lic_lines.specs.Tokens.{Token}
 use Rattle.lic_columns.specs.Cells as columns
 use Rattle.lic_columns.specs.Cells.{Span, from_here, next_cell, with_cell, spans, continues, is_blank}
-use Rattle.lic_columns.specs.Bytes.{letter}
+use Rattle.lic_letters.specs.Bytes.{letter}
 use Rattle.lic_columns.specs.Marks.{is_joining}
 use Rattle.lic_columns.specs.SpanTokens.{token_text, span_token, span_tokens}
 use Rattle.lic_columns.proofs.FirstTokens.{cell_tokens, next, blank_cell, on, own, merged, tokens-blank, tokens-own, tokens-merged}

@@ -6,7 +6,7 @@ use Rattle.lic_kind.specs.declared.Kind.{Kind}
 use Rattle.lic_kind.specs.declared.Kind.TheVariants as kind
 use Rattle.lic_kind.specs.Kinds.{kind_of, is_word_kind, is_mark_kind}
 use Rattle.lic_columns.specs.Cells.{AreCells, cells_of}
-use Rattle.lic_columns.specs.Bytes.{is_word, is_mark}
+use Rattle.lic_letters.specs.Bytes.{is_word, is_mark}
 use Rattle.lic_columns.specs.Masks.{flag_at, flag_before}
 use Rattle.lic_columns.specs.Flags.{cleared, is_within}
 use Rattle.lic_columns.specs.Known.{Known, IsText, known_of, blanked}

@@ -3,7 +3,7 @@ use Rattle.std.proofs.Common.{◌≡◌, ◌⊎◌, ℕ, zero, suc, ◌+◌, ◌
 use Rattle.std.specs.Prelude.{◌/◌, ◌%◌, encode_utf8_all, chars, IsUtf8, replicate}
 use Rattle.std.specs.Char.{encode_utf8, len_utf8}
 use Rattle.std.proofs.lemmas.Bool.{cases_lt}
-use Rattle.std.proofs.lemmas.List.{length-append, length-replicate}
+use Rattle.std.proofs.lemmas.List.{length-replicate}
 use Rattle.std.proofs.lemmas.Str.{encode_ascii, length-encode, len_utf8_ascii, len_utf8_bounds, encodes-chars}
 use Rattle.lic_kind.specs.declared.Kind.{Kind}
 use Rattle.lic_kind.specs.declared.Kind.TheVariants as kind
@@ -17,15 +17,16 @@ use Rattle.lic_lines.specs.Cells.{cell_of}
 use Rattle.lic_lines.specs.Streaks.{same_mark}
 use Rattle.lic_lines.specs.Tokens.{tokens_after}
 use Rattle.lic_lines.proofs.Gaps.{is_mark}
-use Rattle.lic_columns.specs.Bytes as bytes
+use Rattle.lic_letters.specs.Bytes as bytes
 use Rattle.lic_columns.specs.Known.{known_of}
 use Rattle.lic_columns.specs.Marks as taken
-use Rattle.lic_columns.specs.Simple.{IsSimple, IsAlone, AreSimple, in_place, all_in_place}
+use Rattle.lic_letters.specs.Simple.{IsAlone, AreSimple, in_place, all_in_place}
 use Rattle.lic_columns.specs.SpanTokens.{span_tokens}
 use Rattle.lic_columns.specs.Tokens.{text_spans}
 use Rattle.lic_columns.proofs.FirstTokens.{next}
 use Rattle.lic_columns.proofs.Separators.{same_first, unmarked, is_gone, parted}
-use Rattle.lic_columns.proofs.FirstBytes.{Starts, encoded_two, encoded_three, encoded_four, starts}
+use Rattle.lic_letters.proofs.InPlace.{places_size}
+use Rattle.lic_letters.proofs.FirstBytes.{Starts, encoded_two, encoded_three, encoded_four, starts}
 use Rattle.lic_columns.proofs.FlagCells.{marks, mark_at, AreSame, kept_are}
 use Rattle.lic_columns.proofs.LineTokens.{byte_char, mark_flag}
 use Rattle.lic_columns.proofs.WideTokens.{pieces, exploded, IsOfWideCells, tokens_of_wide_cells}
@@ -450,23 +451,6 @@ module _ (at c : ℕ) (cs : List ℕ) (are : AreSimple (c ∷ cs)) (later : (t o
 all_kept : (at : ℕ) (cs : List ℕ) → AreSimple cs → (t o : Bool) → MayBeSame o cs → AreKept t o at cs
 all_kept at [] are t o may = refl
 all_kept at (c ∷ cs) are t o may = char_kept at c cs are (all_kept (at + len_utf8 c) cs are.2) t o may
-
-place_size : (c : ℕ) → IsSimple c → length (encode_utf8 c) ≡ length (in_place c)
-place_size c simple = elim (shape_of c simple) [
-  | inl ascii ↦ ap length (encode_ascii c ascii.small) ∙ sym (ap length ascii.own)
-  | inr wide ↦ length-encode c ∙ sym (in_place_size c wide)
-]
-
-pub places_size : (cs : List ℕ) → AreSimple cs → length (encode_utf8_all cs) ≡ length (all_in_place cs)
-places_size [] are = refl
-places_size (c ∷ cs) are =
-    omega (
-      arith,
-      length-append (encode_utf8 c) (encode_utf8_all cs),
-      length-append (in_place c) (all_in_place cs),
-      place_size c are.0,
-      places_size cs are.2,
-    )
 
 kept_is : (at : ℕ) (cs : List ℕ) → AreSimple cs
     → taken.without_separators (encode_utf8_all cs) (marks (exploded (more_bytes cs) (cells_at at cs)))

@@ -1,54 +1,32 @@
 -- The tokens of spans of a text of simple characters, which is spelled byte for byte, are its first tokens.
-use Rattle.std.proofs.Common.{◌≡◌, ◌⊎◌, ℕ, zero, suc, ◌+◌, ◌-◌, ◌<◌, ◌≤◌, Bool, true, false, not, ◌&&◌, ◌||◌, ◌==◌, if◌then◌else◌, List, [], ◌∷◌, ◌++◌, length, take, drop, map, get_or, inl, inr, refl, sym, ap, ap₂, ◌∙◌, arith, subst, eqb-true}
+use Rattle.std.proofs.Common.{◌≡◌, ◌⊎◌, ℕ, zero, suc, ◌+◌, ◌-◌, ◌<◌, ◌≤◌, Bool, true, false, ◌&&◌, ◌||◌, ◌==◌, if◌then◌else◌, List, [], ◌∷◌, ◌++◌, length, take, drop, map, get_or, inl, inr, refl, sym, ap, ap₂, ◌∙◌, arith, subst, eqb-true}
 use Rattle.std.specs.Prelude.{encode_utf8_all, replicate, nat_lt}
-use Rattle.std.specs.Char.{encode_utf8, len_utf8}
+use Rattle.std.specs.Char.{len_utf8}
 use Rattle.std.specs.List.{AllByRecursion}
-use Rattle.std.proofs.lemmas.Bool.{cases_lt, lt-ltb, le-ltb, cond-true, cond-false}
-use Rattle.std.proofs.lemmas.List.{append-nil, length-append}
-use Rattle.std.proofs.lemmas.Str.{encode_ascii, len_utf8_ascii, len_utf8_bounds, inside_one}
+use Rattle.std.proofs.lemmas.Bool.{cases_lt, lt-ltb, cond-true}
+use Rattle.std.proofs.lemmas.List.{length-append}
+use Rattle.std.proofs.lemmas.Str.{encode_ascii, len_utf8_ascii, len_utf8_bounds}
 use Rattle.std.proofs.Math.Seq.{take-append_seam, drop-append_seam}
 use Rattle.lic_kind.specs.declared.Kind.TheVariants as kind
 use Rattle.lic_kind.specs.Kinds.{kind_of, is_word_kind, is_mark_kind, is_quote, is_dash, spell}
 use Rattle.lic_kind.proofs.KindLemmas.{is_dash-quote, kind_of-dash, kind_of-quote}
-use Rattle.lic_kind.proofs.LetterLemmas.{spell-Mark, spell-dash, spell-quote}
+use Rattle.lic_kind.proofs.LetterLemmas.{spell-dash, spell-quote}
 use Rattle.lic_trim.specs.Sources.{placed}
 use Rattle.lic_lines.specs.declared.cell.Cell.{Cell}
 use Rattle.lic_lines.specs.declared.cell.Cell.TheVariants.{Blank, Mark, Word}
 use Rattle.lic_lines.specs.Cells.{cell_of}
 use Rattle.lic_lines.specs.Streaks.{same_family}
 use Rattle.lic_lines.proofs.Gaps.{is_word, is_mark}
-use Rattle.lic_columns.specs.Bytes as bytes
-use Rattle.lic_columns.specs.Bytes.{letter}
+use Rattle.lic_letters.specs.Bytes as bytes
+use Rattle.lic_letters.specs.Bytes.{letter}
 use Rattle.lic_columns.specs.Marks.{is_joining}
-use Rattle.lic_columns.specs.Simple.{IsOwnLetter, IsSimpleLetter, IsSimpleMark, IsSimple, AreSimple, in_place, in_place_of, all_in_place}
+use Rattle.lic_letters.specs.Simple.{IsOwnLetter, IsSimpleLetter, IsSimpleMark, IsSimple, AreSimple, in_place, all_in_place}
 use Rattle.lic_columns.proofs.SpanLemmas.{CellFits}
 use Rattle.lic_columns.proofs.FlagCells.{words, marks}
-use Rattle.lic_columns.proofs.LineTokens.{letter_is, byte_char, byte_fits, word_flag, mark_flag}
+use Rattle.lic_letters.proofs.InPlace.{letter_is, letter_in_place, blank_in_place, mark_in_place, size-replicate, or-true}
+use Rattle.lic_columns.proofs.LineTokens.{byte_char, byte_fits, word_flag, mark_flag}
 use Rattle.lic_columns.proofs.TextLemmas.{apart_byte}
 use Rattle.lic_columns.proofs.WideTokens.{IsWide, WideFit, pieces, exploded}
-
--- ---- bytes beyond ASCII
-
-abbrev AreHigh : List ℕ → Type 0
-AreHigh [] = Unit {0}
-AreHigh (b ∷ bs) = (128 ≤ b) × AreHigh bs
-
-high_from : (l : List ℕ) → ((k : ℕ) → k < length l → 128 ≤ get_or l k 0) → AreHigh l
-high_from [] h = tt
-high_from (b ∷ bs) h = (h zero (omega arith), high_from bs (λ k lt. h (suc k) (omega (arith, lt))))
-
-encoded_high : (c : ℕ) → 128 ≤ c → AreHigh (encode_utf8 c)
-encoded_high c big = high_from (encode_utf8 c) (λ k lt. elim (cases_lt (get_or (encode_utf8 c) k 0) 128) [
-  | inl low ↦ let e : c ≡ get_or (encode_utf8 c) k 0 = inside_one c [] (encode_utf8 c) k (sym (append-nil (encode_utf8 c))) lt low in absurd (omega (arith, e))
-  | inr high ↦ high
-])
-
-high_letter : (b : ℕ) → 128 ≤ b → letter b ≡ b
-high_letter b big =
-    cond-false (bytes.has_letter b) _ _ (ap (λ t. t && (is_word_kind (kind_of b) || is_mark_kind (kind_of b))) (le-ltb b 128 big))
-
-high_word : (b : ℕ) → 128 ≤ b → bytes.is_word b ≡ true
-high_word b big = ap (λ t. not t || is_word_kind (kind_of b)) (le-ltb b 128 big)
 
 pub differs : (a n : ℕ) → (a ≡ n → ⊥) → (a == n) ≡ false
 differs a n h = go (a == n) refl
@@ -56,13 +34,6 @@ differs a n h = go (a == n) refl
     go : (t : Bool) → (a == n) ≡ t → t ≡ false
     go false e = refl
     go true e = absurd (h (eqb-true a n e))
-
-all_own : (l : List ℕ) → AreHigh l → AllByRecursion IsOwnLetter l
-all_own [] h = tt
-all_own (b ∷ bs) h = ((high_word b h.0, high_letter b h.0), all_own bs h.1)
-
-pub encoded_own : (c : ℕ) → 128 ≤ c → AllByRecursion IsOwnLetter (encode_utf8 c)
-encoded_own c big = all_own (encode_utf8 c) (encoded_high c big)
 
 -- ---- bytes of words that are their own letters
 
@@ -178,9 +149,6 @@ size_is c = omega (arith, (len_utf8_bounds c).0)
 letter_cell : (c at : ℕ) → kind_of c ≡ kind.Word → cell_of (byte_char at c) ≡ Word (byte_char at c)
 letter_cell c at is = ap (λ k. if is_word_kind k then Word (byte_char at c) else (if is_mark_kind k then Mark (byte_char at c) else Blank)) is
 
-pub letter_in_place : (c : ℕ) → 128 ≤ c → kind_of c ≡ kind.Word → in_place c ≡ encode_utf8_all (spell c)
-letter_in_place c big word = cond-false (nat_lt c 128) _ _ (le-ltb c 128 big) ∙ ap (λ k. in_place_of k c) word
-
 letter_run : (at c : ℕ) → IsSimpleLetter c → IsRun at (more_of c) (encode_utf8_all (spell c)) (Word (byte_char at c))
 letter_run at c is =
     let t = encode_utf8_all (spell c) in
@@ -202,9 +170,6 @@ letter_run at c is =
 blank_cell_is : (c at : ℕ) → kind_of c ≡ kind.Blank → cell_of (byte_char at c) ≡ Blank
 blank_cell_is c at is = ap (λ k. if is_word_kind k then Word (byte_char at c) else (if is_mark_kind k then Mark (byte_char at c) else Blank)) is
 
-pub blank_in_place : (c : ℕ) → 128 ≤ c → kind_of c ≡ kind.Blank → in_place c ≡ replicate (len_utf8 c) 0x20
-blank_in_place c big is = cond-false (nat_lt c 128) _ _ (le-ltb c 128 big) ∙ ap (λ k. in_place_of k c) is
-
 space_word : bytes.is_word 0x20 ≡ false
 unfolding kind_of
 space_word = refl
@@ -218,10 +183,6 @@ replicated zero v k lt = absurd (omega arith)
 replicated (suc n) v zero lt = refl
 replicated (suc n) v (suc k) lt = replicated n v k (omega arith)
 
-size-replicate : (n v : ℕ) → length (replicate n v) ≡ n
-size-replicate zero v = refl
-size-replicate (suc n) v = ap suc (size-replicate n v)
-
 blank_run : (at c : ℕ) → IsRun at (more_of c) (replicate (len_utf8 c) 0x20) Blank
 blank_run at c = record {
   size = size-replicate (len_utf8 c) 0x20 ∙ size_is c;
@@ -234,11 +195,6 @@ blank_run at c = record {
 
 mark_cell_is : (c at : ℕ) → kind_of c ≡ kind.Mark → cell_of (byte_char at c) ≡ Mark (byte_char at c)
 mark_cell_is c at is = ap (λ k. if is_word_kind k then Word (byte_char at c) else (if is_mark_kind k then Mark (byte_char at c) else Blank)) is
-
-pub mark_in_place : (c l : ℕ) → 128 ≤ c → kind_of c ≡ kind.Mark → spell c ≡ l ∷ [] → in_place c ≡ replicate (len_utf8 c) l
-mark_in_place c l big is spelled =
-    cond-false (nat_lt c 128) _ _ (le-ltb c 128 big) ∙ ap (λ k. in_place_of k c) is
-    ∙ ap (λ d. replicate (len_utf8 c) d) (ap (λ s. get_or s 0 0) (sym (spell-Mark c is) ∙ spelled))
 
 -- a letter of ASCII that is a mark of its own
 pub record IsMarkOfAscii (l : ℕ) : Type 0 where
@@ -297,10 +253,6 @@ pub record IsJoined (at c : ℕ) : Type 0 where
   pub spelled : spell c ≡ letter ∷ []
   pub run : IsRun at (more_of c) (replicate (len_utf8 c) letter) (Mark (byte_char at c))
   pub mark : bytes.is_mark letter ≡ true
-
-pub or-true : (t : Bool) → (t || true) ≡ true
-or-true true = refl
-or-true false = refl
 
 pub joined_mark : (at c : ℕ) → IsSimpleMark c → IsJoined at c
 joined_mark at c is = elim is.joins [

@@ -15,7 +15,7 @@ use Rattle.lic_lines.specs.Tokens.{Token, both_words, tokens_from}
 use Rattle.lic_lines.proofs.Gaps.{is_word}
 use Rattle.lic_columns.specs.Cells as columns
 use Rattle.lic_columns.specs.Cells.{Span, from_here, next_cell, with_cell, cells_of, spans, continues, is_blank}
-use Rattle.lic_columns.specs.Bytes.{letter}
+use Rattle.lic_letters.specs.Bytes.{letter}
 use Rattle.lic_columns.specs.Known.{Known}
 use Rattle.lic_columns.specs.Marks as taken
 use Rattle.lic_columns.specs.Marks.{is_joining, joined_marks}

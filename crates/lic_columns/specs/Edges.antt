@@ -5,7 +5,7 @@ use Rattle.lic_kind.specs.LineRules.{LineRules}
 use Rattle.lic_trim.specs.Lines.{cut_of, whole_line}
 use Rattle.lic_trim.specs.Texts.{cut_after}
 use Rattle.lic_trim.specs.declared.cut.LineCut.{LineCut}
-use Rattle.lic_columns.specs.Bytes.{is_feed}
+use Rattle.lic_letters.specs.Bytes.{is_feed}
 use Rattle.lic_columns.specs.Known.{Known, known_of, blanked, is_dark}
 
 -- without lead, item and tail of a line from this place to that

@@ -1,6 +1,6 @@
 -- What is known of the bytes of a text, place by place.
 use Rattle.std.specs.Prelude.{◌≡◌, ℕ, Bool, false, ◌&&◌, ◌||◌, List, map, length, ◌++◌}
-use Rattle.lic_columns.specs.Bytes.{letter, is_word, is_mark, is_feed}
+use Rattle.lic_letters.specs.Bytes.{letter, is_word, is_mark, is_feed}
 use Rattle.lic_columns.specs.Flags.{cleared}
 use Rattle.lic_columns.specs.Masks.{flag_at}
 

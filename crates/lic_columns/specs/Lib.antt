@@ -1,4 +1,3 @@
-pub mod Bytes
 pub mod Classes
 pub mod Masks
 pub mod Flags
@@ -11,6 +10,6 @@ pub mod Tokens
 pub mod SpanTokens
 pub mod Edges
 pub mod TokenPlaces
-pub mod Simple
 pub mod PlainLines
-pub mod OwnLetters
+pub use Rattle.lic_letters.specs.Bytes
+pub use Rattle.lic_letters.specs.Simple

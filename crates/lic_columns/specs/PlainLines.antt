@@ -1,17 +1,15 @@
--- Lines at the start of bytes of which nothing but white space is taken, and their tokens by columns.
-use Rattle.std.specs.Prelude.{◌≡◌, ◌≢◌, ◌⊎◌, ℕ, ◌+◌, ◌-◌, ◌<◌, ◌≤◌, true, List, [], ◌∷◌, ◌++◌, length, slice_index, All, chars, IsUtf8}
+-- The tokens of plain lines by columns.
+use Rattle.std.specs.Prelude.{◌≡◌, ℕ, ◌+◌, ◌-◌, ◌<◌, ◌≤◌, true, List, length, slice_index, chars, IsUtf8}
 use Rattle.std.specs.Str.{IsCharBoundary}
 use Rattle.std.specs.List.{AllByRecursion}
 use Rattle.lic_kind.specs.declared.Kind.TheVariants.{Word}
 use Rattle.lic_kind.specs.Kinds.{kind_of}
 use Rattle.lic_kind.specs.LineRules.{LineRules}
-use Rattle.lic_trim.specs.Lines.{cut_of, whole_line}
 use Rattle.lic_trim.specs.Sources.{placed}
-use Rattle.lic_trim.specs.Spaces.{TakesSpaces}
 use Rattle.lic_lines.specs.Cells.{cells_of}
 use Rattle.lic_lines.specs.Streaks.{streaks_joined}
 use Rattle.lic_lines.specs.Tokens.{first_tokens}
-use Rattle.lic_columns.specs.Simple.{TakeSpaces}
+pub use Rattle.lic_letters.specs.PlainLines.{ArePlainLines}
 use Rattle.lic_columns.specs.SpanTokens.{span_tokens, spans_by}
 use Rattle.lic_columns.specs.TokenPlaces.{TokenPlaces}
 
@@ -22,20 +20,6 @@ IsOfWord c = 128 ≤ c → kind_of c ≡ Word
 -- what is beyond ASCII in this text is of words
 abbrev pub HasWords : List ℕ → Type 0
 HasWords text = AllByRecursion IsOfWord (chars text)
-
--- a text that ends in its first U+000A, and of which nothing but white space is taken
-pub record IsPlainLine (rules : LineRules) (line : List ℕ) : Type 0 where
-  pub front : List ℕ
-  pub no_feed : All (λ b. b ≢ 0x0A) front
-  pub ends : line ≡ front ++ 0x0A ∷ []
-  pub utf8 : IsUtf8 line
-  pub takes : TakesSpaces (cut_of rules whole_line (chars line)) (chars line)
-
--- a text of such lines
-pub record ArePlainLines (rules : LineRules) (lines : List ℕ) : Type 0 where
-  pub utf8 : IsUtf8 lines
-  pub ended : (lines ≡ []) ⊎ ((front : List ℕ) × (lines ≡ front ++ 0x0A ∷ []))
-  pub takes : (at : ℕ) → TakeSpaces rules (placed at (chars lines))
 
 -- the first tokens of the lines of a text that begins at this place, by where they begin and end in its letters
 pub record HaveFirstTokens (rules : LineRules) (at : ℕ) (text : List ℕ) (places : TokenPlaces) : Type 0 where

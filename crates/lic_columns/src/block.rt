@@ -1,7 +1,7 @@
 //! What 64 bytes say by themselves, by lanes.
 ghost use Rattle.std.specs.Prelude.{◌≡◌, ℕ, suc, ◌+◌, ◌-◌, ◌*◌, ◌<◌, ◌≤◌, ◌++◌, length, replicate, slice_index, map, ◌==◌, nat_le, if◌then◌else◌};
 ghost use Rattle.std.specs.Char.{to_ascii_lowercase};
-ghost use Rattle.lic_columns.specs.Bytes.{is_word, is_mark, is_feed, letter};
+ghost use Rattle.lic_letters.specs.Bytes.{is_word, is_mark, is_feed, letter};
 ghost use Rattle.lic_columns.specs.Classes.{class_by_low, class_by_high, class_of};
 ghost use Rattle.lic_columns.specs.Masks.{IsMask};
 ghost use Rattle.lic_columns.specs.Marks.{is_joining};

@@ -11,7 +11,7 @@ ghost use Rattle.lic_trim.specs.declared.cut.LineCut.{LineCut};
 ghost use Rattle.lic_columns.specs.Edges.{byte_lines, edges_blanked, lines_blanked};
 ghost use Rattle.lic_columns.specs.Known.{Known, IsText, known_of, blanked};
 ghost use Rattle.lic_columns.specs.Marks.{is_same_as_next, same_as_next, middles, is_in_separator};
-ghost use Rattle.lic_columns.specs.Simple.{AreSimple, TakeSpaces, all_in_place};
+ghost use Rattle.lic_letters.specs.Simple.{AreSimple, TakeSpaces, all_in_place};
 ghost use Rattle.lic_columns.specs.SpanTokens.{span_tokens};
 ghost use Rattle.lic_columns.specs.Tokens.{text_spans};
 

@@ -10,8 +10,6 @@ mod lines;
 mod marks;
 mod mask;
 mod places;
-mod plain;
 mod tokens;
-mod wide;
 
 pub use lines::Lines;

@@ -1,5 +1,5 @@
 //! Masks of 64 bits.
-ghost use Rattle.std.specs.Prelude.{◌≡◌, ℕ, suc, ◌+◌, ◌++◌, ◌-◌, ◌^◌, ◌<◌, ◌≤◌, false, true, not, ◌&&◌, ◌∷◌, IfOk};
+ghost use Rattle.std.specs.Prelude.{◌≡◌, ℕ, suc, ◌+◌, ◌++◌, ◌-◌, ◌^◌, ◌<◌, ◌≤◌, not, ◌&&◌, ◌∷◌, IfOk};
 ghost use Rattle.lic_columns.specs.Flags.{bits_of, is_within};
 ghost use Rattle.lic_columns.specs.Places.{places};
 ghost use Rattle.lic_trim.specs.PieceLengths.{has_bit};
@@ -53,15 +53,4 @@ pub fn but_not(mask: u64, other: u64) -> u64
     ensures { (k : ℕ) → k < 64 → has_bit result k ≡ (has_bit mask k && not (has_bit other k)) }
 {
     mask & !other
-}
-
-/// The lowest place at which no bit is set.
-#[inline(always)]
-pub fn first_zero(mask: u64) -> usize
-    requires { has_bit mask 63 ≡ false }
-    ensures within { result < 64 }
-    ensures zero { has_bit mask result ≡ false }
-    ensures below { (i : ℕ) → i < result → has_bit mask i ≡ true }
-{
-    (!mask).trailing_zeros() as usize
 }

@@ -4,7 +4,7 @@ use Rattle.std.specs.Prelude.{if◌then◌else◌, IsAscii}
 use Rattle.std.specs.List.{flat_map, list_all}
 use Rattle.std.proofs.lemmas.Bool.{cond-true, cond-false}
 use Rattle.std.proofs.lemmas.List.{map-append, reverse-append}
-use Rattle.lic_columns.proofs.Lanes.{every_below}
+use Rattle.lic_letters.proofs.Lanes.{every_below}
 use Rattle.lic_kind.specs.Kinds.{is_dropped, is_mark_kind, is_word_kind, kind_of}
 use Rattle.lic_trim.specs.Sources.{unplaced, placed, without_dropped, lines_of}
 use Rattle.lic_trim.specs.declared.source.SourceChar.{SourceChar}

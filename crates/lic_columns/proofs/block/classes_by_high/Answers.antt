@@ -1,7 +1,8 @@
 use Rattle.std.proofs.Common.{◌/◌, refl, arith}
 use Rattle.std.proofs.lemmas.Simd.{zip2_splat}
 use Rattle.lic_columns.specs.declared.block.TheConstants.{HIGH}
-use Rattle.lic_columns.proofs.Lanes.{down, high_ok, looked_up}
+use Rattle.lic_letters.proofs.Lanes.{down}
+use Rattle.lic_columns.proofs.Lanes.{high_ok, looked_up}
 use Rattle.lic_columns.proofs.block.classes_by_high.Goals as goal
 
 pub swizzle : goal.swizzle

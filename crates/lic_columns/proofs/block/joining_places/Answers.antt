@@ -1,7 +1,7 @@
 use Rattle.std.proofs.Common.{◌≡◌, ◌<◌, ◌||◌, ◌==◌, false, length, get_or, ap, ◌∙◌, arith}
 use Rattle.std.proofs.lemmas.List.{get_or-map}
 use Rattle.lic_columns.specs.Marks.{is_joining}
-use Rattle.lic_columns.proofs.BitLemmas.{has_bit_or}
+use Rattle.lic_letters.proofs.BitLemmas.{has_bit_or}
 use Rattle.lic_columns.proofs.block.joining_places.Goals as goal
 use Rattle.lic_trim.specs.PieceLengths.{has_bit}
 

@@ -3,7 +3,8 @@ use Rattle.std.proofs.lemmas.List.{length-map, map-id}
 use Rattle.std.proofs.lemmas.Simd.{zip2_splat, map-map}
 use lib.Lanes.{zip2}
 use Rattle.lic_columns.proofs.ByteLemmas.{is_capital, small_letters}
-use Rattle.lic_columns.proofs.Lanes.{all_ones, select_is}
+use Rattle.lic_letters.proofs.Lanes.{all_ones}
+use Rattle.lic_columns.proofs.Lanes.{select_is}
 use Rattle.lic_columns.proofs.block.lowered.Goals as goal
 
 abbrev moved : ℕ → ℕ → ℕ

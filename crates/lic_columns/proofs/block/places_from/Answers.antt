@@ -1,6 +1,7 @@
 use Rattle.std.proofs.Common.{ℕ, nat_le, leb}
 use Rattle.std.proofs.lemmas.Simd.{zip2_splat_left}
-use Rattle.lic_columns.proofs.Lanes.{all_ones, IsMask-compared}
+use Rattle.lic_letters.proofs.Lanes.{all_ones}
+use Rattle.lic_columns.proofs.Lanes.{IsMask-compared}
 use Rattle.lic_columns.proofs.block.places_from.Goals as goal
 
 abbrev at_most : ℕ → ℕ → ℕ

@@ -1,6 +1,7 @@
 use Rattle.std.proofs.Common.{ℕ, ◌==◌, eqb}
 use Rattle.std.proofs.lemmas.Simd.{zip2_splat}
-use Rattle.lic_columns.proofs.Lanes.{all_ones, IsMask-compared}
+use Rattle.lic_letters.proofs.Lanes.{all_ones}
+use Rattle.lic_columns.proofs.Lanes.{IsMask-compared}
 use Rattle.lic_columns.proofs.block.places_of.Goals as goal
 
 abbrev same : ℕ → ℕ → ℕ

@@ -1,5 +1,5 @@
 use Rattle.std.proofs.Common.{◌≡◌, ◌==◌, nat_le, map, ap, ◌∙◌, subst}
-use Rattle.lic_columns.specs.Bytes.{is_word, is_mark}
+use Rattle.lic_letters.specs.Bytes.{is_word, is_mark}
 use Rattle.lic_columns.specs.Masks.{IsMask}
 use Rattle.lic_columns.proofs.ByteLemmas.{word_classes, mark_classes}
 use Rattle.lic_columns.proofs.block.read_block.Goals as goal

@@ -1,7 +1,8 @@
 use Rattle.std.proofs.Common.{ℕ, ◌==◌, eqb, sym}
 use Rattle.std.proofs.lemmas.List.{map-id}
 use Rattle.std.proofs.lemmas.Simd.{zip2_splat, splat_is_map}
-use Rattle.lic_columns.proofs.Lanes.{all_ones, select_is}
+use Rattle.lic_letters.proofs.Lanes.{all_ones}
+use Rattle.lic_columns.proofs.Lanes.{select_is}
 use Rattle.lic_columns.proofs.block.replaced.Goals as goal
 
 abbrev same : ℕ → ℕ → ℕ

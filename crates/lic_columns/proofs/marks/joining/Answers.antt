@@ -1,6 +1,6 @@
 use Rattle.std.proofs.Common.{◌≡◌, ◌+◌, ◌*◌, ◌&&◌, Bool, true, false, get_or, length, refl, ap, sym, ◌∙◌, arith}
 use Rattle.lic_columns.specs.Marks.{is_joining}
-use Rattle.lic_columns.proofs.BitLemmas.{has_bit_and, has_bit_zero}
+use Rattle.lic_letters.proofs.BitLemmas.{has_bit_and, has_bit_zero}
 use Rattle.lic_columns.proofs.ColumnLemmas.{some_inside}
 use Rattle.lic_columns.proofs.marks.joining.Goals as goal
 use Rattle.lic_trim.specs.PieceLengths.{has_bit}

@@ -1,7 +1,7 @@
 use Rattle.std.proofs.Common.{◌+◌, ◌*◌, ◌&&◌, ◌||◌, not, bit_or, if◌then◌else◌, ap₂, sym, ◌∙◌, subst}
 use Rattle.lic_columns.specs.Masks.{IsColumn}
 use Rattle.lic_columns.specs.Marks.{kept_by}
-use Rattle.lic_columns.proofs.BitLemmas.{has_bit_or}
+use Rattle.lic_letters.proofs.BitLemmas.{has_bit_or}
 use Rattle.lic_columns.proofs.FlagLemmas.{before_is, after_is}
 use Rattle.lic_columns.proofs.MarkLemmas.{kept_at}
 use Rattle.lic_columns.proofs.marks.kept_of.Goals as goal

@@ -1,6 +1,6 @@
 use Rattle.std.proofs.Common.{◌+◌, ◌*◌, ◌&&◌, ap, sym, ◌∙◌}
 use Rattle.lic_columns.specs.Masks.{flag_before}
-use Rattle.lic_columns.proofs.BitLemmas.{has_bit_and}
+use Rattle.lic_letters.proofs.BitLemmas.{has_bit_and}
 use Rattle.lic_columns.proofs.FlagLemmas.{before_is}
 use Rattle.lic_columns.proofs.MarkLemmas.{middle_at}
 use Rattle.lic_columns.proofs.marks.middles_of.Goals as goal

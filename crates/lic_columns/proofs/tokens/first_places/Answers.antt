@@ -1,5 +1,5 @@
 use Rattle.std.proofs.Common.{◌+◌, ◌*◌, ◌&&◌, ◌||◌, not, ap₂, sym, ◌∙◌}
-use Rattle.lic_columns.proofs.BitLemmas.{has_bit_or}
+use Rattle.lic_letters.proofs.BitLemmas.{has_bit_or}
 use Rattle.lic_columns.proofs.CellLemmas.{begins_at}
 use Rattle.lic_columns.proofs.FlagLemmas.{before_is}
 use Rattle.lic_columns.proofs.tokens.first_places.Goals as goal

@@ -1,5 +1,5 @@
 use Rattle.std.proofs.Common.{◌+◌, ◌*◌, ◌&&◌, ◌||◌, not, ap₂, sym, ◌∙◌}
-use Rattle.lic_columns.proofs.BitLemmas.{has_bit_or}
+use Rattle.lic_letters.proofs.BitLemmas.{has_bit_or}
 use Rattle.lic_columns.proofs.CellLemmas.{ends}
 use Rattle.lic_columns.proofs.FlagLemmas.{after_is}
 use Rattle.lic_columns.proofs.tokens.last_places.Goals as goal

@@ -5,7 +5,7 @@ use Rattle.lic_columns.specs.Flags.{bits_of}
 use Rattle.lic_columns.specs.Marks.{joined_marks, kept_in}
 use Rattle.lic_columns.specs.Masks.{IsColumn}
 use Rattle.lic_columns.specs.Places.{places}
-use Rattle.lic_columns.proofs.BitLemmas.{has_bit_zero}
+use Rattle.lic_letters.proofs.BitLemmas.{has_bit_zero}
 use Rattle.lic_columns.proofs.CellLemmas.{length-cells, length-firsts, length-lasts}
 use Rattle.lic_columns.proofs.ColumnLemmas.{ends_before}
 use Rattle.lic_columns.proofs.Listed.{one_column_more, starts_listed, ends_listed}

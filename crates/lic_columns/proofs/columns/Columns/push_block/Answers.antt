@@ -1,6 +1,6 @@
 use Rattle.std.proofs.Common.{◌≡◌, ◌++◌, take, ap, ◌∙◌, rules}
 use Rattle.std.proofs.lemmas.List.{take-map}
-use Rattle.lic_columns.specs.Bytes.{letter, is_word, is_mark, is_feed}
+use Rattle.lic_letters.specs.Bytes.{letter, is_word, is_mark, is_feed}
 use Rattle.lic_columns.specs.Flags.{bits_of}
 use Rattle.lic_columns.specs.Known.{followed_by, known_of}
 use Rattle.lic_columns.proofs.KnownLemmas.{blank_is_none, part_fits, part_bits, same_known}

@@ -2,7 +2,7 @@ use Rattle.std.proofs.Common.{◌≡◌, ℕ, ◌+◌, ◌*◌, ◌&&◌, true, 
 use Rattle.std.proofs.lemmas.Bool.{and_parts}
 use Rattle.lic_columns.specs.Masks.{IsColumn}
 use Rattle.lic_columns.specs.Marks.{same_as_next, middles, kept_in, is_joining}
-use Rattle.lic_columns.proofs.BitLemmas.{has_bit_and}
+use Rattle.lic_letters.proofs.BitLemmas.{has_bit_and}
 use Rattle.lic_columns.proofs.ColumnLemmas.{ends_before, kept_is_mark, close_next, may_join, set_inside}
 use Rattle.lic_columns.proofs.MarkLemmas.{joined_at, length-kept}
 use Rattle.lic_columns.proofs.marks.Carried.next.Goals as goal

@@ -1,5 +1,5 @@
 use Rattle.lic_columns.specs.Marks.{same_as_next}
-use Rattle.lic_columns.proofs.BitLemmas.{has_bit_zero}
+use Rattle.lic_letters.proofs.BitLemmas.{has_bit_zero}
 use Rattle.lic_columns.proofs.marks.Carried.start.Goals as goal
 
 pub returns : goal.returns

@@ -1,5 +1,5 @@
 use Rattle.std.proofs.Common.{◌≡◌, ℕ, ◌+◌, ◌*◌, ◌<◌, length, bit_and, ap, sym, ◌∙◌, arith}
-use Rattle.lic_columns.proofs.BitLemmas.{has_bit_zero}
+use Rattle.lic_letters.proofs.BitLemmas.{has_bit_zero}
 use Rattle.lic_columns.proofs.ColumnLemmas.{pairs_inside, none_alike, same_of_alike}
 use Rattle.lic_columns.proofs.MarkLemmas.{none_same, some_same, same_at}
 use Rattle.lic_columns.proofs.marks.Pairs.of_column.Goals as goal

@@ -1,0 +1,11 @@
+pub mod Lanes
+pub mod BitLemmas
+pub mod FirstBytes
+pub mod InPlace
+pub mod SpelledFronts
+pub mod WideBytes
+pub mod OwnLanes
+pub mod OwnLetters
+pub mod OwnRuns
+pub mod PlainLines
+pub mod TextEdges

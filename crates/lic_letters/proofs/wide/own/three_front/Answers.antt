@@ -1,0 +1,15 @@
+use Rattle.lic_letters.proofs.OwnRuns.{three_run, three_top}
+use Rattle.lic_letters.proofs.wide.own.three_front.Goals as goal
+
+pub first_zero-requires : goal.first_zero-requires
+first_zero-requires c =
+    three_top c.args.bytes.now c.load-first.result c.load.result c.load-2.result c.ascii_places.result c.three_places.result c.places_on.result
+    0 c.requires (λ i. (c.type_inv.bytes i).fits) c.load-first.ensures c.load.ensures c.load-2.ensures
+    c.ascii_places.ensures.bits c.ascii_places.ensures.above c.three_places.ensures.bits c.three_places.ensures.above c.places_on.ensures
+
+pub returns : goal.returns
+returns c =
+    three_run c.args.bytes.now c.load-first.result c.load.result c.load-2.result c.ascii_places.result c.three_places.result c.places_on.result
+    c.first_zero.result c.requires (λ i. (c.type_inv.bytes i).fits) c.load-first.ensures c.load.ensures c.load-2.ensures
+    c.ascii_places.ensures.bits c.ascii_places.ensures.above c.three_places.ensures.bits c.three_places.ensures.above c.places_on.ensures
+    c.first_zero.ensures.within c.first_zero.ensures.zero c.first_zero.ensures.below

@@ -1,0 +1,4 @@
+pub mod Bytes
+pub mod Simple
+pub mod OwnLetters
+pub mod PlainLines

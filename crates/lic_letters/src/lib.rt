@@ -1,0 +1,7 @@
+//! The letters of text beyond ASCII, byte for byte.
+#![tactic(auto)]
+
+mod plain;
+mod wide;
+
+pub use plain::spell_lines;
