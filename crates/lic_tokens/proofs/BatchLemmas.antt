@@ -19,11 +19,10 @@ use Rattle.lic_tokens.specs.Batches.{AreInBatch, AreSpelledAfter, HasSpelledUpTo
 use Rattle.lic_tokens.specs.Taking.{HasTakenUpTo}
 use Rattle.lic_tokens.specs.Places.{texts_of}
 use Rattle.lic_tokens.specs.Tokens.{TokenValue, reported}
-use Rattle.lic_tokens.specs.Entries.{IsKept, entry_values}
+use Rattle.lic_tokens.specs.Entries.{Entry, IsKept, entry_values}
 use Rattle.lic_tokens.specs.declared.rewriting.Rewriting.{Rewriting}
 use Rattle.lic_tokens.specs.declared.rewriting.batch.Batch.{Batch}
 use Rattle.lic_tokens.specs.declared.rewriting.batch.Spelled.{Spelled}
-use Rattle.lic_tokens.specs.declared.token_list.Entry.{Entry}
 use Rattle.lic_tokens.proofs.EntryLemmas.{kept-values, kept_more}
 use Rattle.lic_tokens.proofs.SpellingPlaces.{blank_utf8, ends_as}
 use Rattle.lic_tokens.proofs.TakenSteps.{none_taken, one_taken, taken_in_turn, token_left}

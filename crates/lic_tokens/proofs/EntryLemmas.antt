@@ -1,5 +1,5 @@
 -- Tokens as they are kept.
-use Rattle.std.proofs.Common.{◌≡◌, ℕ, zero, suc, ◌+◌, ◌≤◌, ◌<◌, List, [], ◌∷◌, ◌++◌, length, take, get_or, refl, sym, ap, ap₂, subst, ◌∙◌, arith, append_assoc, append-nil, length-append, true, false, ◌==◌}
+use Rattle.std.proofs.Common.{◌≡◌, ℕ, zero, suc, ◌+◌, ◌^◌, ◌≤◌, ◌<◌, List, [], ◌∷◌, ◌++◌, length, take, get_or, refl, sym, ap, ap₂, subst, ◌∙◌, arith, append_assoc, append-nil, length-append, false, ◌==◌}
 use Rattle.std.specs.List.{slice_range}
 use Rattle.std.specs.Str.{IsUtf8}
 use Rattle.std.proofs.lemmas.Bool.{cond-true, cond-false, eqb-true, false_from_ne_true}
@@ -10,9 +10,8 @@ use Rattle.lic_phrases.specs.TokenTexts.{IsTokenText}
 use Rattle.lic_tokens.specs.Places.{texts_of, place_end, place_start}
 use Rattle.lic_tokens.specs.Tokens.{AreTokenTexts}
 use Rattle.lic_tokens.specs.Tokens.{TokenValue}
-use Rattle.lic_tokens.specs.Entries.{AreEntries, IsKept, entry_values, text_from}
+use Rattle.lic_tokens.specs.Entries.{AreEntries, AreNear, Entry, IsKept, entry_values, text_from}
 use Rattle.lic_tokens.specs.declared.token.Span.{Span}
-use Rattle.lic_tokens.specs.declared.token_list.Entry.{Entry}
 use Rattle.lic_tokens.proofs.SpellingPlaces.{AreTexts, AreTexts-snoc, are_texts, no_last_letter, slice_parts, spelled-snoc, spelled_utf8, occurs, occurs_at}
 
 -- ---- the tokens of entries
@@ -48,6 +47,17 @@ pub at_place : (l : List ℕ) (n a b : ℕ) → n < length l → get_or l n a �
 at_place [] n a b lt = absurd (omega arith)
 at_place (x ∷ l) zero a b lt = refl
 at_place (x ∷ l) (suc n) a b lt = at_place l n a b (omega arith)
+
+-- a text begins after a blank, or where the one before it ends
+pub from_blank : (spelling : List ℕ) (place : ℕ) → get_or spelling place 0 ≡ 0x20 → place + 1 ≡ text_from spelling place
+from_blank spelling place blank =
+    (let e : place + 1 ≡ suc place = omega arith in e)
+    ∙ sym (cond-true (get_or spelling place 0 == 0x20) (suc place) place (ap (λ b. b == 0x20) blank))
+
+pub from_end : (spelling : List ℕ) (place : ℕ) → ¬ (get_or spelling place 0 ≡ 0x20) → place ≡ text_from spelling place
+from_end spelling place other =
+    sym (cond-false (get_or spelling place 0 == 0x20) (suc place) place
+    (false_from_ne_true (get_or spelling place 0 == 0x20) (λ blank. other (eqb-true (get_or spelling place 0) 0x20 blank))))
 
 -- no tokens are kept by nothing
 no_tokens_kept : IsKept [] [] []
@@ -120,22 +130,10 @@ module _ (spelling : List ℕ) (entries : List Entry) (tokens : List TokenValue)
       let text = get_or (texts_of tokens) i [] in
       omega (arith, end_before, s.order, ap length s.parts, length-append s.front (text ++ s.more), length-append text s.more, text_some tokens i inside kept.texts)
 
-  start_is : text_from spelling end ≡ place_start tokens i
+  pub start_is : text_from spelling end ≡ place_start tokens i
   start_is =
       let s = occurs_at tokens i spelling inside (are_texts tokens kept.utf8 kept.texts) kept.spells in
       ap (text_from spelling) end_before ∙ s.from ∙ sym s.starts
-
-  pub start_after_blank : (bytes : List ℕ) (at : ℕ) → bytes ≡ spelling → at ≡ end → get_or bytes at 0 ≡ 0x20 → at + 1 ≡ place_start tokens i
-  start_after_blank bytes at same is blank =
-      let here : (get_or spelling end 0 == 0x20) ≡ true = ap (λ b. b == 0x20) (ap₂ (λ l n. get_or l n 0) (sym same) (sym is) ∙ blank) in
-      (let e : at + 1 ≡ suc end = omega (arith, is) in e) ∙ sym (cond-true (get_or spelling end 0 == 0x20) (suc end) end here) ∙ start_is
-
-  pub start_at_end : (bytes : List ℕ) (at : ℕ) → bytes ≡ spelling → at ≡ end → ¬ (get_or bytes at 0 ≡ 0x20) → at ≡ place_start tokens i
-  start_at_end bytes at same is other =
-      let here : (get_or spelling end 0 == 0x20) ≡ false =
-      false_from_ne_true (get_or spelling end 0 == 0x20)
-      (λ blank. other (ap₂ (λ l n. get_or l n 0) same is ∙ eqb-true (get_or spelling end 0) 0x20 blank)) in
-      is ∙ sym (cond-false (get_or spelling end 0 == 0x20) (suc end) end here) ∙ start_is
 
 -- where a text is, and what it is
 module _ (spelling : List ℕ) (entries : List Entry) (tokens : List TokenValue) (i : ℕ) (kept : IsKept spelling entries tokens)
@@ -166,8 +164,17 @@ module _ (spelling : List ℕ) (entries : List Entry) (tokens : List TokenValue)
       let v : TokenValue = record { text = []; span = record { start = 0; end = 0 } } in
       subst IsUtf8 (sym (is ∙ text_is v)) (kept.utf8 i v inside)
 
+  pub near_end : (d : Entry) → length spelling < 2 ^ 32 → (get_or entries i d).text_end < 2 ^ 32
+  near_end d small = omega (arith, end_is d, end_within, small)
+
   pub span_is : (d : Entry) (v : TokenValue) → record { start = (get_or entries i d).start; end = (get_or entries i d).end } ≡ (get_or tokens i v).span
   span_is d v = span_at [] tokens entries i d v kept.each inside
+
+-- where the spelling has fewer than 2^32 bytes, 32 bits say where the texts end
+pub kept_near : (spelling : List ℕ) (entries : List Entry) (tokens : List TokenValue) → IsKept spelling entries tokens → length spelling < 2 ^ 32
+    → AreNear entries
+kept_near spelling entries tokens kept small =
+    λ i d inside. near_end spelling entries tokens i kept (omega (arith, inside, AreEntries-length [] tokens entries kept.each)) d small
 
 -- ---- one more token
 

@@ -2,6 +2,7 @@ pub mod GroupLemmas
 pub mod SpellingPlaces
 pub mod ListedTokens
 pub mod TokenTexts
+pub mod EntriesBy
 pub mod EntryLemmas
 pub mod PartedLemmas
 pub mod WordTexts

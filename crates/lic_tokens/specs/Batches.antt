@@ -5,11 +5,10 @@ use Rattle.lic_phrases.specs.Spelling.{ends_in_word, spelled}
 use Rattle.lic_tokens.specs.Places.{texts_of}
 use Rattle.lic_tokens.specs.Taking.{HasTakenUpTo}
 use Rattle.lic_tokens.specs.Tokens.{TokenValue}
-use Rattle.lic_tokens.specs.Entries.{IsKept}
+use Rattle.lic_tokens.specs.Entries.{Entry, IsKept, entries_by}
 use Rattle.lic_tokens.specs.declared.rewriting.Rewriting.{Rewriting}
 use Rattle.lic_tokens.specs.declared.rewriting.batch.Batch.{Batch}
 use Rattle.lic_tokens.specs.declared.rewriting.batch.Spelled.{Spelled}
-use Rattle.lic_tokens.specs.declared.token_list.Entry.{Entry}
 
 -- by these bytes and entries, put after those of the tokens before, these tokens are kept as well
 pub record AreSpelledAfter (before tokens : List TokenValue) (bytes : List ℕ) (entries : List Entry) : Type 0 where
@@ -33,5 +32,6 @@ pub record AreInBatch (tokens : List Token) (i : ℕ) (rewriting : Rewriting) (b
   pub from : i ≤ state.next
   pub short : state.place ≤ 33 * (state.next - i)
   pub utf8 : IsUtf8 (spelled (texts_of rewriting.tokens))
-  pub holds : HasSpelledUpTo tokens i state.next rewriting (take state.place batch.bytes) (take (state.next - i) batch.entries)
+  pub holds : HasSpelledUpTo tokens i state.next rewriting (take state.place batch.bytes)
+      (entries_by (take (state.next - i) batch.ends) (take (state.next - i) batch.sources))
   pub word : state.after_word ≡ ends_in_word (spelled (texts_of rewriting.tokens) ++ take state.place batch.bytes)

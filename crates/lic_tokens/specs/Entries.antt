@@ -1,9 +1,26 @@
 -- How tokens are kept: their canonical spelling, and an entry of each.
-use Rattle.std.specs.Prelude.{◌≡◌, ℕ, suc, ◌==◌, if◌then◌else◌, List, [], ◌∷◌, ◌++◌, length, slice_index, slice_range, All, IsUtf8}
+use Rattle.std.specs.Prelude.{◌≡◌, ℕ, suc, ◌<◌, ◌^◌, ◌==◌, if◌then◌else◌, List, [], ◌∷◌, ◌++◌, length, slice_index, slice_range, All, IsUtf8}
 use Rattle.lic_phrases.specs.Spelling.{spelled}
 use Rattle.lic_tokens.specs.Places.{texts_of}
 use Rattle.lic_tokens.specs.Tokens.{AreTokenTexts, TokenValue}
-use Rattle.lic_tokens.specs.declared.token_list.Entry.{Entry}
+use Rattle.lic_tokens.specs.declared.entries.SourceBytes.{SourceBytes}
+
+-- a token as it is kept: where its text ends in the canonical spelling, and its bytes of the source
+pub record Entry : Type 0 where
+  pub text_end : ℕ
+  pub start : ℕ
+  pub end : ℕ
+
+-- the entries of tokens whose texts end at these places, and that were made from these bytes
+abbrev pub entries_by : List ℕ → List SourceBytes → List Entry
+entries_by [] sources = []
+entries_by (end ∷ ends) [] = []
+entries_by (end ∷ ends) (source ∷ sources) =
+    (record { text_end = end; start = source.start; end = source.end }) ∷ entries_by ends sources
+
+-- 32 bits say where the texts end
+abbrev pub AreNear : List Entry → Type 0
+AreNear entries = All (λ e. e.text_end < 2 ^ 32) entries
 
 -- where the text begins that comes after this place of a spelling: after the blank there, if there is one
 abbrev pub text_from : List ℕ → ℕ → ℕ

@@ -1,6 +1,7 @@
 //! The tokens of a text: their list, its spelling, and phrases rewritten into it.
 #![tactic(auto)]
 
+mod entries;
 mod rewriting;
 mod stretch;
 mod token;

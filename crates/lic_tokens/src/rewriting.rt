@@ -275,7 +275,8 @@ impl<'w> Rewriting<'w> {
         } = spell(self, stretch, i, batch);
         self.tokens.add(
             &batch.bytes[..place],
-            &batch.entries[..next - i],
+            &batch.ends[..next - i],
+            &batch.sources[..next - i],
             after_word,
         )?;
         Ok(next)
@@ -383,7 +384,7 @@ impl<'w> Rewriting<'w> {
             .reserve(lines.starts().len(), lines.letters().len())?;
         let mut from = 0;
         while from < lines.starts().len() {
-            let part = (lines.starts().len() / 4).max(PART);
+            let part = (lines.starts().len() / 2).max(PART);
             let stretch = Stretch::of(at, lines);
             let next = self.take_until(alloc, &stretch, from, from + part, batch)?;
             lines.let_go(next - 1);

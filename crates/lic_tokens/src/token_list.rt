@@ -1,9 +1,10 @@
 //! Tokens as they are kept.
-ghost use Rattle.std.specs.Prelude.{◌≡◌, ◌<◌, ◌++◌, ◌∷◌, [], All, IsUtf8, length, map, slice_index_or, IfOk, List, OnOk};
+ghost use Rattle.std.specs.Prelude.{◌≡◌, ◌^◌, ◌<◌, ◌++◌, ◌∷◌, [], All, IsUtf8, length, map, slice_index_or, IfOk, List, OnOk};
 ghost use Rattle.lic_phrases.specs.Spelling.{begins_in_word, ends_in_word, spelled};
 ghost use Rattle.lic_phrases.specs.TokenTexts.{IsTokenText};
 ghost use Rattle.lic_phrases.specs.Waiting.{AreKnown, spanned_in};
 
+use crate::entries::{Entries, SourceBytes};
 use crate::token::{Span, Token};
 use lic_kind::is_word;
 use lic_phrases::{FinalToken, Phrases, begins_in_word, ends_in_word};
@@ -11,21 +12,12 @@ use simdutf8::compat::from_utf8;
 use std::alloc::{AllocError, Global};
 use std::marker::Model;
 
-/// A token as it is kept: where its text ends in the canonical spelling, and its bytes of the source. Its text begins where
-/// the one before it ends, or after the blank that is there, since no text begins with a blank.
-#[derive(Clone, Copy, Debug)]
-pub(crate) struct Entry {
-    pub(crate) text_end: usize,
-    pub(crate) start: u32,
-    pub(crate) end: u32,
-}
-
 /// Tokens, with their texts in canonical spelling.
 #[derive(Debug, Drop)]
 pub struct TokenList {
     /// In UTF-8.
     spelling: Vec<u8>,
-    entries: Vec<Entry>,
+    entries: Entries,
     /// Whether the spelling ends in a letter of kind Word.
     after_word: bool,
 }
@@ -38,10 +30,10 @@ impl Model for TokenList {
 
     ghost Value = { List TokenValue };
 
-    ghost view = { λ t. entry_values (t.spelling.items) 0 t.entries.items };
+    ghost view = { λ t. entry_values (t.spelling.items) 0 t.entries };
 
-    ghost invariant = { λ t. IsKept t.spelling.items t.entries.items
-        (entry_values t.spelling.items 0 t.entries.items)
+    ghost invariant = { λ t. IsKept t.spelling.items t.entries
+        (entry_values t.spelling.items 0 t.entries)
         × (t.after_word ≡ ends_in_word t.spelling.items) };
 }
 
@@ -91,6 +83,7 @@ impl TokenList {
     ghost use Rattle.lic_tokens.specs.Places.{place_end, place_start, texts_of};
     ghost use Rattle.lic_tokens.specs.Tokens.{AreTokenTexts, TokenValue, reported};
     ghost use Rattle.lic_tokens.specs.Batches.{AreSpelledAfter, HasSpelled};
+    ghost use Rattle.lic_tokens.specs.Entries.{entries_by, text_from};
 
     /// No tokens.
     pub fn new(alloc: Global) -> TokenList
@@ -98,7 +91,7 @@ impl TokenList {
     {
         TokenList {
             spelling: Vec::new(alloc),
-            entries: Vec::new(alloc),
+            entries: Entries::new(alloc),
             after_word: false,
         }
     }
@@ -112,7 +105,7 @@ impl TokenList {
         ensures { IfOk result (λ list. list ≡ []) }
     {
         let spelling = Vec::with_capacity(alloc, bytes)?;
-        let entries = Vec::with_capacity(alloc, tokens)?;
+        let entries = Entries::with_capacity(alloc, tokens)?;
         Ok(TokenList {
             spelling,
             entries,
@@ -187,11 +180,8 @@ impl TokenList {
         let parted = self.after_word & begins;
         // Memory for the text comes first: once an entry is added, nothing fails.
         self.spelling.reserve(text.len() + 1)?;
-        self.entries.push(Entry {
-            text_end: self.spelling.len() + usize::from(parted) + text.len(),
-            start,
-            end,
-        })?;
+        let text_end = self.spelling.len() + usize::from(parted) + text.len();
+        self.entries.push(text_end, SourceBytes { start, end })?;
         if parted {
             self.spelling.push(b' ')?;
         }
@@ -200,22 +190,26 @@ impl TokenList {
         Ok(())
     }
 
-    /// Adds tokens that were spelled together after these, of which the last ends in a letter of kind Word or not.
+    /// Adds tokens that were spelled together after these, of which the last ends in a letter of kind Word or not. 32 bits say where they
+    /// end.
     #[inline(never)]
     pub(crate) fn add(
         &mut self,
         bytes: &[u8],
-        entries: &[Entry],
+        ends: &[u32],
+        sources: &[SourceBytes],
         after_word: bool,
     ) -> Result<(), AllocError>
-        requires spelled { HasSpelled self.old bytes.now entries.now }
+        requires near { 0 < length ends.now → length (spelled (texts_of self.old)) < 2 ^ 32 }
+        requires paired { length ends.now ≡ length sources.now }
+        requires spelled { HasSpelled self.old bytes.now (entries_by ends.now sources.now) }
         requires word { after_word ≡ ends_in_word (spelled (texts_of self.old) ++ bytes.now) }
         ensures { OnOk result ((tokens : List TokenValue)
-            → AreSpelledAfter self.old tokens bytes.now entries.now
+            → AreSpelledAfter self.old tokens bytes.now (entries_by ends.now sources.now)
             → self.new ≡ self.old ++ tokens) }
     {
         self.spelling.reserve(bytes.len())?;
-        self.entries.extend_from_slice(entries)?;
+        self.entries.extend(ends, sources)?;
         self.spelling.extend_from_slice(bytes)?;
         self.after_word = after_word;
         Ok(())
@@ -262,23 +256,6 @@ impl TokenList {
         utf8_text(&self.spelling)
     }
 
-    /// Where the text of the token number `i` begins in the canonical spelling.
-    #[inline(always)]
-    fn text_start(&self, i: usize) -> usize
-        requires { i < length self.now }
-        ensures { result ≡ place_start self.now i }
-    {
-        if i == 0 {
-            return 0;
-        }
-        let end = self.entries[i - 1].text_end;
-        if self.spelling[end] == b' ' {
-            end + 1
-        } else {
-            end
-        }
-    }
-
     /// Where the text of the token number `i` is in the canonical spelling (bytes).
     #[inline(always)]
     pub fn place(&self, i: usize) -> Span
@@ -286,9 +263,44 @@ impl TokenList {
         ensures start { result.start ≡ place_start self.now i }
         ensures end { result.end ≡ place_end self.now i }
     {
+        if let Some((before, end)) = self.entries.near_ends(i) {
+            return Span {
+                start: self.start_after(before),
+                end,
+            };
+        }
+        self.place_apart(i)
+    }
+
+    /// The same of the first token, or where 32 bits do not say it.
+    #[cold]
+    #[inline(never)]
+    fn place_apart(&self, i: usize) -> Span
+        requires { i < length self.now }
+        ensures start { result.start ≡ place_start self.now i }
+        ensures end { result.end ≡ place_end self.now i }
+    {
+        let end = self.entries.text_end(i);
+        if i == 0 {
+            return Span { start: 0, end };
+        }
         Span {
-            start: self.text_start(i),
-            end: self.entries[i].text_end,
+            start: self.start_after(self.entries.text_end(i - 1)),
+            end,
+        }
+    }
+
+    /// Where the text begins before which one ends at this place of the spelling: there, or after the blank that is there, since no text
+    /// begins with a blank.
+    #[inline(always)]
+    fn start_after(&self, end: usize) -> usize
+        requires { end < length (spelled (texts_of self.now)) }
+        ensures { result ≡ text_from (spelled (texts_of self.now)) end }
+    {
+        if self.spelling[end] == b' ' {
+            end + 1
+        } else {
+            end
         }
     }
 
@@ -298,10 +310,10 @@ impl TokenList {
         requires { i < length self.now }
         ensures { (d : _) → result ≡ (slice_index_or self.now i d).span }
     {
-        let entry = self.entries[i];
+        let source = self.entries.source(i);
         Span {
-            start: entry.start as usize,
-            end: entry.end as usize,
+            start: source.start as usize,
+            end: source.end as usize,
         }
     }
 

@@ -10,9 +10,9 @@ ghost use Rattle.lic_tokens.specs.Places.{texts_of};
 ghost use Rattle.lic_tokens.specs.Tokens.{HaveTexts};
 ghost use Rattle.lic_tokens.specs.Stretches.{begins_sign};
 
+use crate::entries::SourceBytes;
 use crate::rewriting::Rewriting;
 use crate::stretch::Stretch;
-use crate::token_list::Entry;
 use crate::word_bytes::is_word_byte;
 use lic_phrases::{Phrases, Rewriter};
 
@@ -28,12 +28,17 @@ const TOKENS: usize = 128;
 /// So many bytes they have at most: each a blank and the letters that are copied.
 const BYTES: usize = 4224;
 
+/// After more bytes of a spelling no tokens are spelled together, since 32 bits might not say where their texts end.
+const MAX_BEFORE: usize = 0xFFFF_0000;
+
 /// Tokens that are spelled together, before they are added to a list.
 #[derive(Drop)]
 pub struct Batch {
     /// Their texts, and the blanks between them.
     pub(crate) bytes: [u8; BYTES],
-    pub(crate) entries: [Entry; TOKENS],
+    /// Where their texts end in the list, and their bytes of the source.
+    pub(crate) ends: [u32; TOKENS],
+    pub(crate) sources: [SourceBytes; TOKENS],
 }
 
 /// How far they are spelled.
@@ -50,14 +55,11 @@ pub(crate) struct Spelled {
 impl Batch {
     /// A batch that holds nothing of use.
     pub fn new() -> Batch {
-        let none = Entry {
-            text_end: 0,
-            start: 0,
-            end: 0,
-        };
+        let none = SourceBytes { start: 0, end: 0 };
         Batch {
             bytes: [0; BYTES],
-            entries: [none; TOKENS],
+            ends: [0; TOKENS],
+            sources: [none; TOKENS],
         }
     }
 }
@@ -129,7 +131,8 @@ fn plain_after_look<'a>(phrases: &Phrases, stretch: &Stretch<'a>, i: usize) -> O
     Some(text)
 }
 
-/// Spells tokens of lines together, from the number `i` on, as long as each is plain and short.
+/// Spells tokens of lines together, from the number `i` on, as long as each is plain and short, and none where 32 bits might not say where
+/// their texts end.
 #[inline(never)]
 pub(crate) fn spell(
     rewriting: &Rewriting<'_>,
@@ -142,6 +145,7 @@ pub(crate) fn spell(
     requires texts { HaveTexts stretch.now }
     ensures within { result.next ≤ length stretch.now }
     ensures few { result.next ≤ i + TOKENS }
+    ensures near { i < result.next → length (spelled (texts_of rewriting.now.tokens)) < 2 ^ 32 }
     ensures held { AreInBatch stretch.now i rewriting.now batch.new result }
 {
     let before = rewriting.tokens.spelled().len();
@@ -151,6 +155,9 @@ pub(crate) fn spell(
         place: 0,
         after_word: rewriting.tokens.after_word(),
     };
+    if before > MAX_BEFORE {
+        return state;
+    }
     while state.next < last {
         state = spell_plain(rewriting, stretch, i, last, before, state, batch);
         if state.next >= last {
@@ -185,7 +192,7 @@ fn spell_plain(
     requires within { last ≤ length stretch.now }
     requires few { last ≤ i + TOKENS }
     requires before { before ≡ length (spelled (texts_of rewriting.now.tokens)) }
-    requires fits { before < 2 ^ 63 }
+    requires fits { before ≤ MAX_BEFORE }
     requires none { rewriting.now.rewriter ≡ nothing_kept }
     requires texts { HaveTexts stretch.now }
     requires held { AreInBatch stretch.now i rewriting.now batch.old from }
@@ -227,7 +234,7 @@ fn put_token(
     requires few { state.next < i + TOKENS }
     requires counted { state.next + 1 < 2 ^ 64 }
     requires before { before ≡ length (spelled (texts_of rewriting.now.tokens)) }
-    requires fits { before < 2 ^ 63 }
+    requires fits { before ≤ MAX_BEFORE }
     requires none { rewriting.now.rewriter ≡ nothing_kept }
     requires texts { HaveTexts stretch.now }
     requires held { AreInBatch stretch.now i rewriting.now batch.old state }
@@ -255,11 +262,8 @@ fn put_token(
         text.len(),
         wide,
     );
-    batch.entries[next - i] = Entry {
-        text_end: before + place,
-        start,
-        end,
-    };
+    batch.ends[next - i] = (before + place) as u32;
+    batch.sources[next - i] = SourceBytes { start, end };
     Spelled {
         next: next + 1,
         place,

@@ -1,4 +1,4 @@
-use Rattle.std.proofs.Common.{◌≡◌, ℕ, ◌-◌, ◌<◌, [], true, length, drop, refl, sym, ap, subst, ◌∙◌, append-nil, length-drop, arith}
+use Rattle.std.proofs.Common.{◌≡◌, ℕ, ◌-◌, ◌<◌, [], true, length, refl, sym, ap, subst, ◌∙◌, append-nil, length-drop, arith}
 use Rattle.lic_columns.specs.TokenPlaces.{TokenPlaces}
 use Rattle.lic_phrases.specs.Settling.{Settles}
 use Rattle.lic_tokens.specs.Stretches.{AreTokenPlaces, tokens_at}

@@ -1,12 +1,13 @@
 use Rattle.std.proofs.Common.{◌≡◌, ◌+◌, ◌-◌, ◌*◌, ◌≤◌, ◌&&◌, ◌++◌, length, take, get_or, refl, sym, ap, ap₂, subst, ◌∙◌, arith}
-use Rattle.std.proofs.lemmas.Grind.{take-set_at}
 use Rattle.std.proofs.lemmas.List.{length-take-le}
 use Rattle.std.proofs.lemmas.List.Elements.{All-get_or}
 use Rattle.lic_lines.specs.Tokens.{Token}
 use Rattle.lic_phrases.specs.Spelling.{blank_if, is_parted, spelled}
 use Rattle.lic_phrases.specs.TokenTexts.{IsTokenText}
 use Rattle.lic_tokens.specs.Places.{texts_of}
-use Rattle.lic_tokens.specs.declared.token_list.Entry.{Entry}
+use Rattle.lic_tokens.specs.Entries.{Entry, entries_by}
+use Rattle.lic_tokens.specs.declared.entries.SourceBytes.{SourceBytes}
+use Rattle.lic_tokens.proofs.EntriesBy.{set_by}
 use Rattle.lic_tokens.proofs.BatchLemmas.{blank_is, one_more_spelled, short_blank, word_is}
 use Rattle.lic_tokens.proofs.StretchTokens.{no_token, token_taken}
 use Rattle.lic_tokens.proofs.rewriting.batch.put_token.Goals as goal
@@ -71,6 +72,7 @@ returns-clause-held c =
       after_blank = (get_or tokens state.next no_token).after_blank;
     } in
     let entry : Entry = record { text_end = c.args.before + c.put-place.result; start = c.start-start.result; end = c.end-end.result } in
+    let source : SourceBytes = record { start = c.start-start.result; end = c.end-end.result } in
     let short : c.put-place.result ≤ 33 * (state.next + 1 - i) =
     omega (arith, c.requires.short, c.requires.most, known.from, known.short, c.put-place.ensures.place, short_blank (state.after_word && c.is_word_at.result)) in
     let long : length (take c.put-place.result c.put-place.new.bytes) ≡ c.put-place.result =
@@ -79,13 +81,15 @@ returns-clause-held c =
       from = omega (arith, known.from);
       short = short;
       utf8 = known.utf8;
-      holds = one_more_spelled tokens i state.next rewriting so_far (take c.put-place.result c.put-place.new.bytes) (take (state.next - i) batch.entries) _ token entry
+      holds = one_more_spelled tokens i state.next rewriting so_far (take c.put-place.result c.put-place.new.bytes)
+          (entries_by (take (state.next - i) batch.ends) (take (state.next - i) batch.sources)) _ token entry
           known.holds c.requires.none c.requires.utf8 is (λ settled taken. c.requires.left settled taken token refl)
           (token_taken tokens state.next text token.start token.end token.after_blank c.requires.within c.requires.no_sign c.requires.words
           (c.requires.text no_token) (c.start-start.ensures no_token) (c.end-end.ensures no_token) refl)
           grown
           (ap₂ (λ m n. let e : Entry = record { text_end = m + n; start = c.start-start.result; end = c.end-end.result } in e) c.requires.before (sym long))
-          (take-set_at batch.entries (state.next - i) (state.next + 1 - i) entry (omega (arith, known.from)) (omega (arith, known.from, c.requires.few)));
+          (set_by batch.ends batch.sources (state.next - i) (state.next + 1 - i) (c.args.before + c.put-place.result) source (omega (arith, known.from))
+          (omega (arith, known.from, c.requires.few)) (omega (arith, known.from, c.requires.few)));
       word = word_is tokens i rewriting batch state text known c.requires.utf8 is c.requires.words (length text - 1) c.is_word_at-2.result
           (take c.put-place.result c.put-place.new.bytes) (omega (arith, is.not_empty)) c.is_word_at-2.ensures grown;
     }

@@ -1,25 +1,33 @@
 use Rattle.std.proofs.Common.{◌≡◌, ◌-◌, [], length, ap, sym, ◌∙◌, append-nil, subst, arith, take}
 use Rattle.lic_phrases.specs.Spelling.{ends_in_word}
-use Rattle.lic_tokens.specs.Batches.{HasSpelledUpTo}
+use Rattle.lic_tokens.specs.Batches.{AreInBatch, HasSpelledUpTo}
+use Rattle.lic_tokens.specs.Entries.{entries_by}
 use Rattle.lic_tokens.proofs.BatchLemmas.{none_spelled_yet}
 use Rattle.lic_tokens.proofs.StretchTokens.{no_token}
 use Rattle.lic_tokens.proofs.rewriting.batch.spell.Goals as goal
+use Rattle.lic_tokens.proofs.rewriting.batch.spell.Goals.{After-after_word}
 
-pub loop-state-init : goal.loop-state-init
-loop-state-init c =
+-- none is in it yet
+none_yet : (c : After-after_word) → AreInBatch c.args.stretch.now c.args.i c.args.rewriting.now c.args.batch.now
+    (record { next = c.args.i; place = 0; after_word = c.after_word.result })
+none_yet c =
     let i = c.args.i in
     let none : 0 ≡ i - i = omega arith in
     record {
-      within = omega arith;
-      held = record {
-        from = omega arith;
-        short = omega arith;
-        utf8 = c.after_word.ensures.utf8;
-        holds = subst (λ n. HasSpelledUpTo c.args.stretch.now i i c.args.rewriting.now [] (take n c.args.batch.now.entries)) none
-            (none_spelled_yet c.args.stretch.now i c.args.rewriting.now);
-        word = c.after_word.ensures.word ∙ ap ends_in_word (sym (append-nil _));
-      };
+      from = omega arith;
+      short = omega arith;
+      utf8 = c.after_word.ensures.utf8;
+      holds = subst (λ n. HasSpelledUpTo c.args.stretch.now i i c.args.rewriting.now []
+          (entries_by (take n c.args.batch.now.ends) (take n c.args.batch.now.sources))) none
+          (none_spelled_yet c.args.stretch.now i c.args.rewriting.now);
+      word = c.after_word.ensures.word ∙ ap ends_in_word (sym (append-nil _));
     }
+
+pub returns-then-before-gt-MAX_BEFORE-clause-held : goal.returns-then-before-gt-MAX_BEFORE-clause-held
+returns-then-before-gt-MAX_BEFORE-clause-held c = none_yet (goal.at.returns-then-before-gt-MAX_BEFORE-clause-held c).After-after_word
+
+pub loop-state-init : goal.loop-state-init
+loop-state-init c = record { within = omega arith; held = none_yet (goal.at.loop-state-init c).After-after_word }
 
 pub put_token-state-requires-clause-front : goal.put_token-state-requires-clause-front
 put_token-state-requires-clause-front c =

@@ -12,4 +12,4 @@ returns-clause-word c =
 pub returns-clause-utf8 : goal.returns-clause-utf8
 returns-clause-utf8 c =
     subst IsUtf8 (c.self.invariant.0.spells ∙ ap (λ ts. spelled (texts_of ts)) c.self.view_is)
-    (kept_utf8 c.self.inside.spelling.items c.self.inside.entries.items _ c.self.invariant.0)
+    (kept_utf8 c.self.inside.spelling.items c.self.inside.entries _ c.self.invariant.0)

@@ -8,7 +8,7 @@ use Rattle.lic_tokens.proofs.token_list.TokenList.get.Goals as goal
 pub slice_bounds-utf8_text-count : goal.slice_bounds-utf8_text-count
 slice_bounds-utf8_text-count c =
     let spelling = c.self.inside.spelling.items in
-    let entries = c.self.inside.entries.items in
+    let entries = c.self.inside.entries in
     let kept = subst (IsKept spelling entries) c.self.view_is c.self.invariant.0 in
     omega (
       arith,
@@ -20,7 +20,7 @@ slice_bounds-utf8_text-count c =
 pub slice_bounds-utf8_text-start : goal.slice_bounds-utf8_text-start
 slice_bounds-utf8_text-start c =
     let spelling = c.self.inside.spelling.items in
-    let entries = c.self.inside.entries.items in
+    let entries = c.self.inside.entries in
     let kept = subst (IsKept spelling entries) c.self.view_is c.self.invariant.0 in
     omega (
       arith,
@@ -32,7 +32,7 @@ slice_bounds-utf8_text-start c =
 pub slice_bounds-utf8_text-end : goal.slice_bounds-utf8_text-end
 slice_bounds-utf8_text-end c =
     let spelling = c.self.inside.spelling.items in
-    let entries = c.self.inside.entries.items in
+    let entries = c.self.inside.entries in
     let kept = subst (IsKept spelling entries) c.self.view_is c.self.invariant.0 in
     omega (
       arith,
@@ -46,7 +46,7 @@ utf8_text-requires c =
     let tokens = c.args.self.now in
     let i = c.args.i in
     let spelling = c.self.inside.spelling.items in
-    let entries = c.self.inside.entries.items in
+    let entries = c.self.inside.entries in
     let kept = subst (IsKept spelling entries) c.self.view_is c.self.invariant.0 in
     text_utf8 spelling entries tokens i kept c.requires _
     (ap₂ (λ m n. slice_range c.deref.result.now m n) c.place-start.ensures.start c.place-start.ensures.end
@@ -57,7 +57,7 @@ returns-clause-text c = λ d.
     let tokens = c.args.self.now in
     let i = c.args.i in
     let spelling = c.self.inside.spelling.items in
-    let entries = c.self.inside.entries.items in
+    let entries = c.self.inside.entries in
     let kept = subst (IsKept spelling entries) c.self.view_is c.self.invariant.0 in
     c.utf8_text.ensures
     ∙ ap₂ (λ m n. slice_range c.deref.result.now m n) c.place-start.ensures.start c.place-start.ensures.end

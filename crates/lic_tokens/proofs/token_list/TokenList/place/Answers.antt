@@ -1,18 +1,39 @@
-use Rattle.std.proofs.Common.{◌≡◌, length, get_or, ap, subst, ◌∙◌, arith}
-use Rattle.lic_tokens.specs.Entries.{IsKept}
-use Rattle.lic_tokens.specs.declared.token_list.Entry.{Entry}
-use Rattle.lic_tokens.proofs.EntryLemmas.{AreEntries-length, end_is}
+use Rattle.std.proofs.Common.{◌-◌, List, ℕ, get_or, length, ap, sym, subst, ◌∙◌, arith}
+use Rattle.lic_phrases.specs.Spelling.{spelled}
+use Rattle.lic_tokens.specs.Entries.{IsKept, text_from}
+use Rattle.lic_tokens.specs.Places.{texts_of}
+use Rattle.lic_tokens.proofs.EntriesBy.{no_entry}
+use Rattle.lic_tokens.proofs.EntryLemmas.{AreEntries-length, end_inside, end_is, start_is}
 use Rattle.lic_tokens.proofs.token_list.TokenList.place.Goals as goal
 
-pub index-requires : goal.index-requires
-index-requires c =
-    omega (arith, c.requires, c.self.inside.entries.ok, AreEntries-length _ _ _ c.self.invariant.0.each, ap length c.self.view_is)
+pub near_ends-requires : goal.near_ends-requires
+near_ends-requires c = omega (arith, c.requires, AreEntries-length _ _ _ c.self.invariant.0.each, ap length c.self.view_is)
 
-pub returns-clause-end : goal.returns-clause-end
-returns-clause-end c =
+pub start_after-requires : goal.start_after-requires
+start_after-requires c =
     let spelling = c.self.inside.spelling.items in
-    let entries = c.self.inside.entries.items in
-    let entry : Entry = c.index.result.now in
-    let at : entry ≡ get_or entries c.args.i entry = c.index.ensures in
-    ap (λ e. e.text_end) at
-    ∙ end_is spelling entries c.args.self.now c.args.i (subst (IsKept spelling entries) c.self.view_is c.self.invariant.0) c.requires entry
+    let entries = c.self.inside.entries in
+    let kept = subst (IsKept spelling entries) c.self.view_is c.self.invariant.0 in
+    omega (
+      arith,
+      c.in-Some.ensures.before no_entry,
+      end_inside spelling entries c.args.self.now c.args.i (c.args.i - 1) no_entry kept (omega (arith, c.in-Some.ensures.some)) c.requires,
+      ap length kept.spells,
+    )
+
+pub returns-in-Some-clause-start : goal.returns-in-Some-clause-start
+returns-in-Some-clause-start c =
+    let spelling = c.self.inside.spelling.items in
+    let entries = c.self.inside.entries in
+    let kept = subst (IsKept spelling entries) c.self.view_is c.self.invariant.0 in
+    c.start_after.ensures
+    ∙ ap (text_from (spelled (texts_of c.args.self.now))) (c.in-Some.ensures.before no_entry)
+    ∙ ap (λ (l : List ℕ). text_from l (get_or entries (c.args.i - 1) no_entry).text_end) (sym kept.spells)
+    ∙ start_is spelling entries c.args.self.now c.args.i (c.args.i - 1) no_entry kept (omega (arith, c.in-Some.ensures.some)) c.requires
+
+pub returns-in-Some-clause-end : goal.returns-in-Some-clause-end
+returns-in-Some-clause-end c =
+    let spelling = c.self.inside.spelling.items in
+    let entries = c.self.inside.entries in
+    let kept = subst (IsKept spelling entries) c.self.view_is c.self.invariant.0 in
+    c.in-Some.ensures.end no_entry ∙ end_is spelling entries c.args.self.now c.args.i kept c.requires no_entry

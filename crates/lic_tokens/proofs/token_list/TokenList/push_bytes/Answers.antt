@@ -5,7 +5,7 @@ use Rattle.std.specs.Str.{IsUtf8}
 use Rattle.std.proofs.lemmas.Str.{IsUtf8-append}
 use Rattle.lic_phrases.specs.Spelling.{blank_if, ends_in_word, is_parted}
 use Rattle.lic_tokens.specs.Tokens.{TokenValue}
-use Rattle.lic_tokens.specs.declared.token_list.Entry.{Entry}
+use Rattle.lic_tokens.specs.Entries.{Entry}
 use Rattle.lic_tokens.proofs.EntryLemmas.{kept-pushed, kept_utf8, values-pushed}
 use Rattle.lic_tokens.proofs.SpellingPlaces.{blank_utf8, ends_as}
 use Rattle.lic_tokens.proofs.token_list.TokenList.push_bytes.Goals as goal
@@ -55,12 +55,12 @@ ends c =
     omega (arith, before, blank, ap length (written c), length-append old (blank_if wanted ++ text), length-append (blank_if wanted) text)
 
 -- the entries so far, and one more
-added : (c : After-self-1) → c.if-parted.self-inside.entries.items
-    ≡ c.self.inside.entries.items ++ (record { text_end = end c; start = c.args.start; end = c.args.end }) ∷ []
+added : (c : After-self-1) → c.if-parted.self-inside.entries
+    ≡ c.self.inside.entries ++ (record { text_end = end c; start = c.args.start; end = c.args.end }) ∷ []
 added c =
     elim c.if-parted.branch [
-      | then-parted+in_ok-push-2 w ↦ ap (λ s. s.entries.items) w.self-inside-is ∙ c.in_ok-push.ensures.items
-      | else-parted w ↦ ap (λ s. s.entries.items) w.self-inside-is ∙ c.in_ok-push.ensures.items
+      | then-parted+in_ok-push-2 w ↦ ap (λ s. s.entries) w.self-inside-is ∙ c.in_ok-push.ensures.added
+      | else-parted w ↦ ap (λ s. s.entries) w.self-inside-is ∙ c.in_ok-push.ensures.added
     ]
 
 pub invariant_of-self-2 : goal.invariant_of-self-2
@@ -70,9 +70,9 @@ invariant_of-self-2 c =
     let entry : Entry = record { text_end = end c; start = c.args.start; end = c.args.end } in
     let blank = blank_if (is_parted old text) in
     let before : IsUtf8 (old ++ blank) =
-    IsUtf8-append old blank (kept_utf8 old c.self.inside.entries.items _ c.self.invariant.0) (blank_utf8 (is_parted old text)) in (
-      kept-pushed old c.extend_from_slice.new.self.items text c.self.inside.entries.items
-          c.if-parted.self-inside.entries.items _ entry c.requires.utf8 c.requires.text (written c) (ends c) (added c) c.self.invariant.0,
+    IsUtf8-append old blank (kept_utf8 old c.self.inside.entries _ c.self.invariant.0) (blank_utf8 (is_parted old text)) in (
+      kept-pushed old c.extend_from_slice.new.self.items text c.self.inside.entries
+          c.if-parted.self-inside.entries _ entry c.requires.utf8 c.requires.text (written c) (ends c) (added c) c.self.invariant.0,
       c.requires.ends ∙ sym (ends_as (old ++ blank) text before c.requires.utf8 c.requires.text.not_empty)
           ∙ ap ends_in_word (append_assoc old blank text ∙ sym (written c)),
     )
@@ -80,6 +80,6 @@ invariant_of-self-2 c =
 pub returns : goal.returns
 returns c =
     let entry : Entry = record { text_end = end c; start = c.args.start; end = c.args.end } in
-    values-pushed c.self.inside.spelling.items c.extend_from_slice.new.self.items c.args.text.now c.self.inside.entries.items
-    c.if-parted.self-inside.entries.items _ entry c.requires.utf8 c.requires.text (written c) (ends c) (added c) c.self.invariant.0
+    values-pushed c.self.inside.spelling.items c.extend_from_slice.new.self.items c.args.text.now c.self.inside.entries
+    c.if-parted.self-inside.entries _ entry c.requires.utf8 c.requires.text (written c) (ends c) (added c) c.self.invariant.0
     ∙ ap (λ (ts : List TokenValue). ts ++ (record { text = c.args.text.now; span = record { start = c.args.start; end = c.args.end } }) ∷ []) c.self.view_is

@@ -5,4 +5,4 @@ use Rattle.lic_tokens.proofs.token_list.TokenList.spelled_text.Goals as goal
 
 pub utf8_text-requires : goal.utf8_text-requires
 utf8_text-requires c =
-    subst IsUtf8 (sym c.deref.ensures.value) (kept_utf8 c.self.inside.spelling.items c.self.inside.entries.items _ c.self.invariant.0)
+    subst IsUtf8 (sym c.deref.ensures.value) (kept_utf8 c.self.inside.spelling.items c.self.inside.entries _ c.self.invariant.0)
