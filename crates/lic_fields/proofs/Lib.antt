@@ -2,3 +2,4 @@ mod Characters
 mod LineFronts
 mod LineParts
 mod PlainBytes
+mod Thousands

@@ -1,130 +1,79 @@
--- The front of a line: two digits written over those of a number that differs in them alone.
-use Rattle.std.proofs.Common.{◌≡◌, ℕ, zero, suc, ◌+◌, ◌-◌, ◌*◌, ◌/◌, ◌%◌, ◌^◌, ◌<◌, ◌≤◌, Bool, true, ◌&&◌, T, eqb, List, [], ◌∷◌, ◌++◌, length, take, drop, set, get_or, refl, sym, ap, ap₂, ◌∙◌, inl, inr, arith, eq-zero-or-pos, eqb→eq, append_assoc, length-append, length-set}
+-- The front of a line: four bytes written over those that end a field.
+use Rattle.std.proofs.Common.{◌≡◌, ℕ, ◌+◌, ◌-◌, ◌≤◌, List, [], ◌∷◌, ◌++◌, length, take, drop, sym, ap, ap₂, ◌∙◌, arith, append_assoc, drop-drop, length-append}
 use Rattle.std.proofs.Math.Seq.{take-append_seam, drop-append_seam}
-use Rattle.std.proofs.lemmas.List.{take-append-drop, take-set-le, take-set, drop-set, set_comm, length-take-le, take-take, take_at}
+use Rattle.std.proofs.lemmas.List.{length-take-le, take-take, take_at}
+use Rattle.std.proofs.lemmas.Simd.{put_chunk_is}
 use Rattle.std.specs.Prelude.{decimal}
-use lib.Ieee.Fits.{and_l, and_r}
-use Rattle.itoa.proofs.Decimal.{decimal_pair}
-use Rattle.lic_fields.specs.declared.line_front.TheConstants.{PAIRS}
+use Rattle.std.specs.Simd.Lanes.{put_chunk}
 use Rattle.lic_fields.specs.Fields.{field}
-use Rattle.lic_fields.specs.Fronts.{IsKept}
+use Rattle.lic_fields.specs.Fronts.{EndsField, IsKept}
 
-abbrev are_pairs : ℕ → Bool
-are_pairs zero = true
-are_pairs (suc p) = (eqb (get_or PAIRS (p * 2) 0) (48 + p / 10) && eqb (get_or PAIRS (p * 2 + 1) 0) (48 + p % 10)) && are_pairs p
+-- four bytes written so that they end at `end`
+pub four_put : (bytes four : List ℕ) (end : ℕ) → length four ≡ 4 → 4 ≤ end → end ≤ length bytes
+    → put_chunk (end - 4) bytes four ≡ take (end - 4) bytes ++ (four ++ drop end bytes)
+four_put bytes four end long low fits =
+    put_chunk_is (end - 4) bytes four (omega (arith, long, low, fits))
+    ∙ ap (λ l. take (end - 4) bytes ++ (four ++ l))
+    (drop-drop (length four) (end - 4) bytes ∙ ap (λ n. drop n bytes) (omega (arith, long, low)))
 
-pairs_below : (n p : ℕ) → T (are_pairs n) → p < n → (get_or PAIRS (p * 2) 0 ≡ 48 + p / 10) × (get_or PAIRS (p * 2 + 1) 0 ≡ 48 + p % 10)
-pairs_below zero p t h = absurd (omega arith)
-pairs_below (suc n) p t h =
-    elim (eq-zero-or-pos (n - p)) [
-      | inl z ↦ let e : p ≡ n = omega arith in let a = and_l _ (are_pairs n) t in rw e (eqb→eq _ _ (and_l _ _ a), eqb→eq _ _ (and_r _ _ a))
-      | inr g ↦ pairs_below n p (and_r _ (are_pairs n) t) (omega arith)
-    ]
+-- four bytes in place of others
+four_changed : (front old new after bytes : List ℕ) (end : ℕ) → length old ≡ 4 → bytes ≡ front ++ (old ++ after) → end ≡ length front + 4
+    → take (end - 4) bytes ++ (new ++ drop end bytes) ≡ front ++ (new ++ after)
+four_changed front old new after bytes end four is at =
+    let before : end - 4 ≡ length front = omega (arith, at) in
+    let past : end ≡ length (front ++ old) = at ∙ sym (length-append front old ∙ ap (λ n. length front + n) four) in
+    ap₂ (λ x y. x ++ (new ++ y))
+    (ap₂ take before is ∙ take-append_seam front (old ++ after))
+    (ap₂ drop past (is ∙ sym (append_assoc front old after)) ∙ drop-append_seam (front ++ old) after)
 
--- the two digits of a number below 100, as the table has them
-pub pair_at : (p : ℕ) → p < 100 → (get_or PAIRS (p * 2) 0 ≡ 48 + p / 10) × (get_or PAIRS (p * 2 + 1) 0 ≡ 48 + p % 10)
-pair_at p h = pairs_below 100 p tt h
+-- a line's front, with what ends the fields of its numbers
+module _ (line same first second : List ℕ) where
+  abbrev pub fronted : List ℕ → List ℕ → List ℕ
+  fronted a b = line ++ (same ++ ((first ++ a) ++ (second ++ b)))
 
--- two bytes written, that end at `end`
-pub two_set : (b : List ℕ) (end t o : ℕ) → 2 ≤ end → end ≤ length b
-    → set (set b (end - 2) t) (end - 1) o ≡ take (end - 2) b ++ (t ∷ o ∷ drop end b)
-two_set b end t o two fits =
-    let next : end - 1 ≡ end - 2 + 1 = omega arith in
-    let past : end - 2 + 1 + 1 ≡ end = omega arith in
-    ap (λ k. set (set b (end - 2) t) k o) next
-    ∙ (sym (take-append-drop (end - 2) (set (set b (end - 2) t) (end - 2 + 1) o))
-    ∙ ap₂ (λ x y. x ++ y)
-    (take-set-le (end - 2) (set b (end - 2) t) (end - 2 + 1) o (omega arith) ∙ take-set b (end - 2) t)
-    (ap (drop (end - 2)) (set_comm b (end - 2) (end - 2 + 1) t o (λ x. omega arith))
-    ∙ (drop-set (set b (end - 2 + 1) o) (end - 2) t (omega (arith, length-set b (end - 2 + 1) o))
-    ∙ ap (λ l. t ∷ l) (drop-set b (end - 2 + 1) o (omega arith) ∙ ap (λ k. o ∷ drop k b) past))))
+  first_apart : (a b after : List ℕ) → fronted a b ++ after ≡ ((line ++ same) ++ first) ++ (a ++ ((second ++ b) ++ after))
+  first_apart a b after =
+      ap (λ l. l ++ after) (sym (append_assoc line same ((first ++ a) ++ (second ++ b))))
+      ∙ (append_assoc (line ++ same) ((first ++ a) ++ (second ++ b)) after
+      ∙ (ap (λ l. (line ++ same) ++ l) (append_assoc (first ++ a) (second ++ b) after ∙ append_assoc first a ((second ++ b) ++ after))
+      ∙ sym (append_assoc (line ++ same) first (a ++ ((second ++ b) ++ after)))))
 
--- the last two digits of a number
-abbrev pub last_two : ℕ → List ℕ
-last_two n = (48 + n % 100 / 10) ∷ (48 + n % 100 % 10) ∷ []
+  second_apart : (a b after : List ℕ) → fronted a b ++ after ≡ (((line ++ same) ++ (first ++ a)) ++ second) ++ (b ++ after)
+  second_apart a b after =
+      ap (λ l. l ++ after) (sym (append_assoc line same ((first ++ a) ++ (second ++ b))) ∙ sym (append_assoc (line ++ same) (first ++ a) (second ++ b)))
+      ∙ (append_assoc ((line ++ same) ++ (first ++ a)) (second ++ b) after
+      ∙ (ap (λ l. ((line ++ same) ++ (first ++ a)) ++ l) (append_assoc second b after)
+      ∙ sym (append_assoc ((line ++ same) ++ (first ++ a)) second (b ++ after))))
 
--- a number within a line, and one that differs from it in its last two digits alone
-module _ (front after : List ℕ) (n k : ℕ) (n_fits : n < 2 ^ 64) (k_fits : k < 2 ^ 64) (large : 100 ≤ k) (near : n / 100 ≡ k / 100) where
-  kept_is : decimal k ≡ decimal (k / 100) ++ last_two k
-  kept_is = decimal_pair k large k_fits
+  pub first_changed : (old new b after bytes : List ℕ) (end : ℕ) → length old ≡ 4 → bytes ≡ fronted old b ++ after
+      → end ≡ length line + (length same + (length first + 4)) → take (end - 4) bytes ++ (new ++ drop end bytes) ≡ fronted new b ++ after
+  first_changed old new b after bytes end four is at =
+      let one = length-append (line ++ same) first in
+      let two = length-append line same in
+      four_changed ((line ++ same) ++ first) old new ((second ++ b) ++ after) bytes end four (is ∙ first_apart old b after) (omega (arith, one, two, at))
+      ∙ sym (first_apart new b after)
 
-  next_is : decimal n ≡ decimal (k / 100) ++ last_two n
-  next_is = decimal_pair n (omega (arith, large, near)) n_fits ∙ ap (λ m. decimal m ++ last_two n) near
+  pub second_changed : (a old new after bytes : List ℕ) (end : ℕ) → length a ≡ 4 → length old ≡ 4 → bytes ≡ fronted a old ++ after
+      → end ≡ length line + (length same + (length first + 4 + (length second + 4)))
+      → take (end - 4) bytes ++ (new ++ drop end bytes) ≡ fronted a new ++ after
+  second_changed a old new after bytes end long four is at =
+      let one = length-append ((line ++ same) ++ (first ++ a)) second in
+      let two = length-append (line ++ same) (first ++ a) in
+      let three = length-append line same in
+      let last = length-append first a in
+      four_changed (((line ++ same) ++ (first ++ a)) ++ second) old new after bytes end four (is ∙ second_apart a old after)
+      (omega (arith, one, two, three, last, long, at))
+      ∙ sym (second_apart a new after)
 
-  -- it has as many digits
-  pub same_length : length (decimal n) ≡ length (decimal k)
-  same_length =
-      let a : length (decimal n) ≡ length (decimal (k / 100)) + 2 = ap length next_is ∙ length-append (decimal (k / 100)) (last_two n) in
-      let b : length (decimal k) ≡ length (decimal (k / 100)) + 2 = ap length kept_is ∙ length-append (decimal (k / 100)) (last_two k) in
-      omega (arith, a, b)
-
-  pub two_digits : 2 ≤ length (decimal k)
-  two_digits =
-      let b : length (decimal k) ≡ length (decimal (k / 100)) + 2 = ap length kept_is ∙ length-append (decimal (k / 100)) (last_two k) in
-      omega (arith, b)
-
-  -- the line, with the digits before the last two apart
-  parted : (number pair : List ℕ) → number ≡ decimal (k / 100) ++ pair
-      → front ++ (number ++ after) ≡ (front ++ decimal (k / 100)) ++ (pair ++ after)
-  parted number pair e =
-      ap (λ l. front ++ (l ++ after)) e
-      ∙ (ap (λ l. front ++ l) (append_assoc (decimal (k / 100)) pair after)
-      ∙ sym (append_assoc front (decimal (k / 100)) (pair ++ after)))
-
-  before_is : (end : ℕ) → end ≡ length front + length (decimal k) → take (end - 2) (front ++ (decimal k ++ after)) ≡ front ++ decimal (k / 100)
-  before_is end e =
-      let long : length (front ++ decimal (k / 100)) ≡ length front + length (decimal (k / 100)) = length-append front (decimal (k / 100)) in
-      let digits : length (decimal k) ≡ length (decimal (k / 100)) + 2 = ap length kept_is ∙ length-append (decimal (k / 100)) (last_two k) in
-      let at : end - 2 ≡ length (front ++ decimal (k / 100)) = omega (arith, long, digits, e) in
-      ap₂ take at (parted (decimal k) (last_two k) kept_is)
-      ∙ take-append_seam (front ++ decimal (k / 100)) (last_two k ++ after)
-
-  after_is : (end : ℕ) → end ≡ length front + length (decimal k) → drop end (front ++ (decimal k ++ after)) ≡ after
-  after_is end e =
-      let at : end ≡ length (front ++ decimal k) = e ∙ sym (length-append front (decimal k)) in
-      ap₂ drop at (sym (append_assoc front (decimal k) after)) ∙ drop-append_seam (front ++ decimal k) after
-
-  pub changed : (end : ℕ) → end ≡ length front + length (decimal k)
-      → take (end - 2) (front ++ (decimal k ++ after)) ++ (last_two n ++ drop end (front ++ (decimal k ++ after))) ≡ front ++ (decimal n ++ after)
-  changed end e =
-      ap₂ (λ x y. x ++ (last_two n ++ y)) (before_is end e) (after_is end e)
-      ∙ sym (parted (decimal n) (last_two n) next_is)
-
--- the front of a line between these bytes, with the digits of its numbers
-module _ (line same after : List ℕ) where
-  abbrev pub lined : List ℕ → List ℕ → List ℕ
-  lined a b = (line ++ (same ++ (field a 0x09 ++ field b 0x09))) ++ after
-
-  before_first : (a b : List ℕ) → lined a b ≡ (line ++ same) ++ (a ++ (0x09 ∷ (field b 0x09 ++ after)))
-  before_first a b =
-      ap (λ l. l ++ after) (sym (append_assoc line same (field a 0x09 ++ field b 0x09)))
-      ∙ (append_assoc (line ++ same) (field a 0x09 ++ field b 0x09) after
-      ∙ ap (λ l. (line ++ same) ++ l) (append_assoc (field a 0x09) (field b 0x09) after ∙ append_assoc a (0x09 ∷ []) (field b 0x09 ++ after)))
-
-  before_second : (a b : List ℕ) → lined a b ≡ ((line ++ same) ++ field a 0x09) ++ (b ++ (0x09 ∷ after))
-  before_second a b =
-      ap (λ l. l ++ after) (sym (append_assoc line same (field a 0x09 ++ field b 0x09)) ∙ sym (append_assoc (line ++ same) (field a 0x09) (field b 0x09)))
-      ∙ (append_assoc ((line ++ same) ++ field a 0x09) (field b 0x09) after
-      ∙ ap (λ l. ((line ++ same) ++ field a 0x09) ++ l) (append_assoc b (0x09 ∷ []) after))
-
-  pub first_changed : (b bytes : List ℕ) (end n k : ℕ) → n < 2 ^ 64 → k < 2 ^ 64 → 100 ≤ k → n / 100 ≡ k / 100
-      → bytes ≡ lined (decimal k) b → end ≡ length line + (length same + length (decimal k))
-      → take (end - 2) bytes ++ (last_two n ++ drop end bytes) ≡ lined (decimal n) b
-  first_changed b bytes end n k n_fits k_fits large near is at =
-      let long : length (line ++ same) ≡ length line + length same = length-append line same in
-      ap (λ x. take (end - 2) x ++ (last_two n ++ drop end x)) (is ∙ before_first (decimal k) b)
-      ∙ (changed (line ++ same) (0x09 ∷ (field b 0x09 ++ after)) n k n_fits k_fits large near end (omega (arith, long, at))
-      ∙ sym (before_first (decimal n) b))
-
-  pub second_changed : (a bytes : List ℕ) (end n k : ℕ) → n < 2 ^ 64 → k < 2 ^ 64 → 100 ≤ k → n / 100 ≡ k / 100
-      → bytes ≡ lined a (decimal k) → end ≡ length line + (length same + (length a + 1 + length (decimal k)))
-      → take (end - 2) bytes ++ (last_two n ++ drop end bytes) ≡ lined a (decimal n)
-  second_changed a bytes end n k n_fits k_fits large near is at =
-      let long : length ((line ++ same) ++ field a 0x09) ≡ length line + length same + (length a + 1) =
-      length-append (line ++ same) (field a 0x09) ∙ ap₂ (λ x y. x + y) (length-append line same) (length-append a (0x09 ∷ [])) in
-      ap (λ x. take (end - 2) x ++ (last_two n ++ drop end x)) (is ∙ before_second a (decimal k))
-      ∙ (changed ((line ++ same) ++ field a 0x09) (0x09 ∷ after) n k n_fits k_fits large near end (omega (arith, long, at))
-      ∙ sym (before_second a (decimal n)))
+  pub fronted_long : (a b : List ℕ) → length a ≡ 4 → length b ≡ 4
+      → length (fronted a b) ≡ length line + (length same + (length first + 4 + (length second + 4)))
+  fronted_long a b one two =
+      let all = length-append line (same ++ ((first ++ a) ++ (second ++ b))) in
+      let rest = length-append same ((first ++ a) ++ (second ++ b)) in
+      let both = length-append (first ++ a) (second ++ b) in
+      let x = length-append first a in
+      let y = length-append second b in
+      omega (arith, all, rest, both, x, y, one, two)
 
 -- two numbers as fields
 pub numbers_long : (a b : List ℕ) → length (field a 0x09 ++ field b 0x09) ≡ length a + 1 + (length b + 1)
@@ -132,14 +81,10 @@ numbers_long a b =
     length-append (field a 0x09) (field b 0x09)
     ∙ ap₂ (λ x y. x + y) (length-append a (0x09 ∷ [])) (length-append b (0x09 ∷ []))
 
--- a number that is near to one has its hundreds
-pub near_hundreds : (n k from : ℕ) → from ≡ k - k % 100 → from ≤ n → n < from + 100 → (n / 100 ≡ k / 100) × (n - from ≡ n % 100)
-near_hundreds n k from is low high = (omega (arith, is), omega (arith, is))
-
 -- the bytes that are the same in all stay where numbers are written after them
 module _ (old bytes : List ℕ) (same len one two : ℕ) (within : same ≤ length old) (fits : len ≤ length bytes)
     (written : take len bytes ≡ take same old ++ (field (decimal one) 0x09 ++ field (decimal two) 0x09)) where
-  pub written_long : len ≡ same + (length (decimal one) + 1 + (length (decimal two) + 1))
+  written_long : len ≡ same + (length (decimal one) + 1 + (length (decimal two) + 1))
   written_long =
       sym (length-take-le len bytes fits) ∙ (ap length written
       ∙ (length-append (take same old) (field (decimal one) 0x09 ++ field (decimal two) 0x09)
@@ -150,36 +95,28 @@ module _ (old bytes : List ℕ) (same len one two : ℕ) (within : same ≤ leng
       sym (take-take same len bytes (omega (arith, written_long))) ∙ (ap (take same) written
       ∙ take_at (take same old) (field (decimal one) 0x09 ++ field (decimal two) 0x09) same (length-take-le same old within))
 
-  pub kept_of : (first_end : ℕ) → one < 2 ^ 63 → two < 2 ^ 63 → 100 ≤ one → 100 ≤ two → first_end ≡ same + length (decimal one)
-      → len ≤ same + 42 → same + 138 ≤ length bytes → IsKept bytes same first_end len (one - one % 100) (two - two % 100)
-  kept_of first_end one_fits two_fits one_large two_large end_is end_fits room =
+  pub kept_of : (first_end : ℕ) (first second first_four second_four : List ℕ) → EndsField first first_four one → EndsField second second_four two
+      → first_end ≡ same + (length (decimal one) + 1) → len ≤ same + 42 → same + 170 ≤ length bytes → IsKept bytes same first_end len first second
+  kept_of first_end first second first_four second_four first_is second_is end_is end_fits enough =
+      let long : length (decimal one) + 1 ≡ length first + 4 =
+      sym (length-append (decimal one) (0x09 ∷ [])) ∙ (ap length first_is.1
+      ∙ (length-append first first_four ∙ ap (λ n. length first + n) first_is.0)) in
       record {
-        one = one;
-        two = two;
-        one_fits = one_fits;
-        two_fits = two_fits;
-        one_large = one_large;
-        two_large = two_large;
-        one_is = refl;
-        two_is = refl;
-        bytes_are = written ∙ ap (λ l. l ++ (field (decimal one) 0x09 ++ field (decimal two) 0x09)) (sym same_stays);
-        end_is = end_is;
+        first_four = first_four;
+        second_four = second_four;
+        first_long = first_is.0;
+        second_long = second_is.0;
+        bytes_are = written ∙ ap₂ (λ s n. s ++ n) (sym same_stays) (ap₂ (λ x y. x ++ y) first_is.1 second_is.1);
+        end_is = omega (arith, end_is, long);
         end_fits = end_fits;
-        room = room;
+        enough = enough;
       }
 
--- a number that is kept is one of 64 bits
-pub fits : (n : ℕ) → n < 2 ^ 63 → n < 2 ^ 64
-fits n lt = omega (arith, lt)
-
 -- where the two numbers that are kept end
-pub kept_ends : (bytes : List ℕ) (same first_end len first second : ℕ) → (kept : IsKept bytes same first_end len first second)
-    → (2 ≤ first_end) × (len ≡ first_end + 1 + (length (decimal kept.two) + 1)) × (2 ≤ length (decimal kept.two))
-kept_ends bytes same first_end len first second kept =
-    let within : len ≤ length bytes = omega (arith, kept.end_fits, kept.room) in
-    let long = written_long bytes bytes same len kept.one kept.two (omega (arith, kept.room)) within kept.bytes_are in
-    let one_fits = fits kept.one kept.one_fits in
-    let two_fits = fits kept.two kept.two_fits in
-    let one = two_digits [] [] kept.one kept.one one_fits one_fits kept.one_large refl in
-    let two = two_digits [] [] kept.two kept.two two_fits two_fits kept.two_large refl in
-    (omega (arith, kept.end_is, one), omega (arith, kept.end_is, long), two)
+pub kept_end : (bytes : List ℕ) (same first_end len : ℕ) (first second : List ℕ) → IsKept bytes same first_end len first second
+    → len ≡ first_end + (length second + 4)
+kept_end bytes same first_end len first second kept =
+    let all = sym (length-take-le len bytes (omega (arith, kept.end_fits, kept.enough))) ∙ ap length kept.bytes_are in
+    let start = length-take-le same bytes (omega (arith, kept.enough)) in
+    let whole = fronted_long [] (take same bytes) first second kept.first_four kept.second_four kept.first_long kept.second_long in
+    omega (arith, all, start, whole, kept.end_is)

@@ -4,6 +4,8 @@ use Rattle.std.proofs.Math.Seq.{take-append-add, take-append_seam}
 use Rattle.std.proofs.lemmas.List.{length-take-le, take-append-le, take-take, take_more_set}
 use Rattle.lic_fields.specs.Fields.{escaped, field}
 use Rattle.lic_fields.proofs.PlainBytes.{block_cut}
+use Rattle.std.proofs.lemmas.Simd.{length-put_chunk, put_chunk_is}
+use Rattle.std.specs.Simd.Lanes.{chunk, put_chunk}
 use borrow.Rule.Slice.PartMut.{put_mid}
 
 -- what is written over the bytes from a place on, and the first of it
@@ -24,15 +26,18 @@ both_taken x y rest n long =
     ap₂ take (long ∙ sym (length-append x y)) (sym (append_assoc x y rest)) ∙ take-append_seam (x ++ y) rest
 
 -- a text at `end`, and the line end after it
-pub text_written : (bytes text mid : List ℕ) (end len : ℕ) → len ≤ 16 → 16 ≤ length text → end + 17 ≤ length bytes → mid ≡ take 16 text
-    → take (end + len + 1) (set (put_mid end (end + 16 - end) bytes mid) (end + len) 0x0A) ≡ take end bytes ++ (take len text ++ 0x0A ∷ [])
-text_written bytes text mid end len short long fits is =
-    let mid_long : length mid ≡ 16 = ap length is ∙ length-take-le 16 text long in
-    let whole = put_long bytes mid end (end + 16 - end) (omega (arith, fits)) in
-    take_more_set (put_mid end (end + 16 - end) bytes mid) (end + len) 0x0A (omega (arith, whole, mid_long, fits, short))
-    ∙ (ap (λ l. l ++ 0x0A ∷ []) (take_put bytes mid end (end + 16 - end) len (omega (arith, fits)) (omega (arith, mid_long, short))
-    ∙ ap (λ l. take end bytes ++ l) (ap (take len) is ∙ take-take len 16 text short))
-    ∙ append_assoc (take end bytes) (take len text) (0x0A ∷ []))
+pub text_written : (bytes text : List ℕ) (end len : ℕ) → len ≤ 16 → 16 ≤ length text → end + 17 ≤ length bytes
+    → take (end + len + 1) (set (put_chunk end bytes (chunk 0 16 text)) (end + len) 0x0A) ≡ take end bytes ++ (take len text ++ 0x0A ∷ [])
+text_written bytes text end len short long fits =
+    let part : length (take 16 text) ≡ 16 = length-take-le 16 text long in
+    let whole = length-put_chunk end bytes (take 16 text) in
+    let start : length (take end bytes) ≡ end = length-take-le end bytes (omega (arith, fits)) in
+    take_more_set (put_chunk end bytes (take 16 text)) (end + len) 0x0A (omega (arith, whole, fits, short))
+    ∙ (ap (λ l. take (end + len) l ++ 0x0A ∷ []) (put_chunk_is end bytes (take 16 text) (omega (arith, part, fits)))
+    ∙ (ap (λ n. take (n + len) (take end bytes ++ (take 16 text ++ drop (length (take 16 text)) (drop end bytes))) ++ 0x0A ∷ []) (sym start)
+    ∙ (ap (λ l. l ++ 0x0A ∷ []) (take-append-add (take end bytes) _ len
+    ∙ ap (λ l. take end bytes ++ l) (take-append-le len (take 16 text) _ (omega (arith, part, short)) ∙ take-take len 16 text short))
+    ∙ append_assoc (take end bytes) (take len text) (0x0A ∷ []))))
 
 -- two parts of a buffer, of which 42 bytes are written over those from `same` on
 pub parts_written : (bytes mid buffer x y rest : List ℕ) (same at : ℕ) → same + 42 ≤ length bytes → at ≤ 42 → length buffer ≡ 84
@@ -52,8 +57,8 @@ parts_written bytes mid buffer x y rest same at fits low long is parts lens =
 pub block_front : (old bytes new : List ℕ) (n wide : ℕ) → n ≤ wide → new ≡ old ++ take wide bytes → take (length old + n) new ≡ old ++ take n bytes
 block_front old bytes new n wide short is = ap (take (length old + n)) is ∙ block_cut old bytes n wide short
 
-pub block_room : (old bytes new : List ℕ) (n wide : ℕ) → n + 17 ≤ wide → wide ≤ length bytes → new ≡ old ++ take wide bytes → length old + n + 17 ≤ length new
-block_room old bytes new n wide fits within is =
+pub block_after : (old bytes new : List ℕ) (n wide : ℕ) → n + 17 ≤ wide → wide ≤ length bytes → new ≡ old ++ take wide bytes → length old + n + 17 ≤ length new
+block_after old bytes new n wide fits within is =
     let long = ap length is ∙ length-append old (take wide bytes) in
     let taken = length-take-le wide bytes within in
     omega (arith, long, taken, fits)

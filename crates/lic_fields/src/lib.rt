@@ -5,7 +5,9 @@ ghost use Rattle.std.specs.Prelude.{◌≡◌, ◌≤◌, ◌+◌, ◌++◌, [],
 ghost use Rattle.std.specs.Fmt.{WritesOnOk};
 ghost use Rattle.lic_fields.specs.Fields.{ArePlain, escaped_byte, escaped, field};
 
+mod last_digits;
 mod line_front;
+mod thousand;
 
 use itoa::{Buffer, write_digits};
 pub use line_front::LineFront;

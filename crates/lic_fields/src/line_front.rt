@@ -3,61 +3,39 @@
 ghost use Rattle.std.specs.Prelude.{◌≡◌, ◌<◌, ◌≤◌, ◌+◌, ◌*◌, ◌^◌, ◌/◌, ◌%◌, ◌-◌, ◌∷◌, ◌++◌, [], true, IfOk, OnOk, decimal, drop, length, take};
 ghost use Rattle.lic_fields.specs.Fields.{escaped, field};
 
+use crate::thousand::Thousand;
 use crate::{TWO_NUMBERS, add_text, add_two_numbers, has_escaped, write_number};
 use std::alloc::AllocError;
 use std::marker::Model;
+use std::simd::prelude::*;
 
-/// So many bytes of a text are copied at once: most texts have fewer.
+/// How many bytes of a text are copied at once: most texts have fewer.
 const COPIED: usize = 16;
 
-/// A text of so many bytes, and the line end.
-const ROOM: usize = 17;
+/// How many bytes come after both numbers: those of a text that are copied, and the line end.
+const AFTER: usize = 17;
 
-/// So many bytes are copied at once: most lines have fewer.
-const BLOCK: usize = 96;
+/// How many bytes are copied at once, if they are enough.
+const SHORT: usize = 64;
 
-/// The digits of the numbers below 100, two for each.
-static PAIRS: [u8; 200] =
-    *b"00010203040506070809101112131415161718192021222324252627282930313233343536373839404142434445464748495051525354555657585960616263646566676869707172737475767778798081828384858687888990919293949596979899";
+/// How many bytes are copied at once otherwise: most lines have fewer.
+const LONG: usize = 128;
 
-/// Numbers below this one are kept.
-const GREATEST: u64 = 1 << 63;
-
-/// Whether a number is kept: it has three digits or more, and the hundred after it are numbers too.
-fn is_kept(n: u64) -> bool
-    ensures { result ≡ true → (100 ≤ n) × (n < 2 ^ 63) }
-{
-    100 <= n && n < GREATEST
-}
-
-/// Whether a number is one of the hundred from `from` on: the difference is very great where it is less than `from`.
+/// Writes four bytes so that they end at `end`.
 #[inline(always)]
-fn is_near(n: u64, from: u64) -> bool
-    requires { from < 2 ^ 63 }
-    ensures { result ≡ true → (from ≤ n) × (n < from + 100) }
+fn write_four(bytes: &mut [u8], end: usize, four: u8x4)
+    requires { (length four ≡ 4) × ((4 ≤ end) × (end ≤ length bytes.old)) }
+    ensures { bytes.new ≡ take (end - 4) bytes.old ++ (four ++ drop end bytes.old) }
 {
-    n.wrapping_sub(from) < 100
+    four.copy_to_slice(&mut bytes[end - 4..]);
 }
 
-/// Writes the two digits of a number below 100 so that they end at `end`.
-#[inline(always)]
-fn write_pair(bytes: &mut [u8], end: usize, pair: u64)
-    requires { (pair < 100) × ((2 ≤ end) × (end ≤ length bytes.old)) }
-    ensures { bytes.new
-        ≡ take (end - 2) bytes.old ++ ((48 + pair / 10) ∷ (48 + pair % 10) ∷ drop end bytes.old) }
-{
-    let from = pair as usize * 2;
-    let (tens, ones) = (PAIRS[from], PAIRS[from + 1]);
-    bytes[end - 2] = tens;
-    bytes[end - 1] = ones;
-}
-
-/// Writes two numbers as fields after the first `same` bytes, a tab after each. Answers where the digits of the first end, and where
-/// both fields end.
+/// Writes two numbers as fields after the first `same` bytes, a tab after each. Answers where the first field ends, and
+/// where both end.
 #[inline(always)]
 fn write_numbers(bytes: &mut [u8], same: usize, first: u64, second: u64) -> (usize, usize)
     requires { same + 42 ≤ length bytes.old }
-    ensures first { result.0 ≡ same + length (decimal first) }
+    ensures first { result.0 ≡ same + (length (decimal first) + 1) }
     ensures end { result.1 ≤ same + 42 }
     ensures written { take result.1 bytes.new
         ≡ take same bytes.old ++ (field (decimal first) 0x09 ++ field (decimal second) 0x09) }
@@ -67,22 +45,26 @@ fn write_numbers(bytes: &mut [u8], same: usize, first: u64, second: u64) -> (usi
     let middle = write_number(&mut buffer, TWO_NUMBERS, second, b'\t');
     let at = write_number(&mut buffer, middle, first, b'\t');
     bytes[same..same + TWO_NUMBERS].copy_from_slice(&buffer[at..at + TWO_NUMBERS]);
-    (same + (middle - 1 - at), same + (TWO_NUMBERS - at))
+    (same + (middle - at), same + (TWO_NUMBERS - at))
 }
 
 /// Adds the first `len` of these bytes, and some after them: mostly they are few, and a copy of a fixed length takes less time.
 #[inline(always)]
 fn add_block(lines: &mut Vec<u8>, bytes: &[u8], len: usize) -> Result<(), AllocError>
-    requires { (96 ≤ length bytes.now) × (len + 17 ≤ length bytes.now) }
+    requires { (128 ≤ length bytes.now) × (len + 17 ≤ length bytes.now) }
     ensures front { OnOk result (take (length lines.old.items + len) lines.new.items
         ≡ lines.old.items ++ take len bytes.now) }
-    ensures room { OnOk result (length lines.old.items + len + 17 ≤ length lines.new.items) }
+    ensures after { OnOk result (length lines.old.items + len + 17 ≤ length lines.new.items) }
 {
-    if len + ROOM > BLOCK {
-        lines.extend_from_slice(&bytes[..len + ROOM])?;
+    if len + AFTER <= SHORT {
+        lines.extend_from_slice(&bytes[..SHORT])?;
         return Ok(());
     }
-    lines.extend_from_slice(&bytes[..BLOCK])?;
+    if len + AFTER <= LONG {
+        lines.extend_from_slice(&bytes[..LONG])?;
+        return Ok(());
+    }
+    lines.extend_from_slice(&bytes[..len + AFTER])?;
     Ok(())
 }
 
@@ -95,12 +77,12 @@ fn add_whole(
 ) -> Result<usize, AllocError>
     ensures front { IfOk result (λ end. take end lines.new.items
         ≡ lines.old.items ++ (bytes.now ++ (field (decimal first) 0x09 ++ field (decimal second) 0x09))) }
-    ensures room { IfOk result (λ end. end + 17 ≤ length lines.new.items) }
+    ensures after { IfOk result (λ end. end + 17 ≤ length lines.new.items) }
 {
     lines.extend_from_slice(bytes)?;
     add_two_numbers(lines, first, second)?;
     let end = lines.len();
-    lines.extend_from_slice(&[0; ROOM])?;
+    lines.extend_from_slice(&[0; AFTER])?;
     Ok(end)
 }
 
@@ -112,7 +94,7 @@ fn write_text(bytes: &mut [u8], end: usize, text: &[u8], len: usize)
         ≡ take end bytes.old ++ (take len text.now ++ 0x0A ∷ []) }
     ensures len { length bytes.new ≡ length bytes.old }
 {
-    bytes[end..end + COPIED].copy_from_slice(&text[..COPIED]);
+    u8x16::from_slice(text).copy_to_slice(&mut bytes[end..]);
     bytes[end + len] = b'\n';
 }
 
@@ -134,20 +116,20 @@ fn end_line(lines: &mut Vec<u8>, end: usize, text: &[u8], len: usize) -> Result<
 }
 
 /// Adds lines that begin with bytes that are the same in all, and two numbers as fields, a tab after each. What was written last is
-/// kept: the numbers of the next line mostly differ from it in their last two digits alone.
+/// kept: the numbers of the next line mostly differ from it in their last three digits alone.
 #[derive(Debug, Drop)]
 pub struct LineFront {
-    // the bytes that are the same in all, and two numbers of three digits or more; and then any, so that a block can be copied
+    // the bytes that are the same in all, and two numbers of three digits or more as fields; and then any, so that a block can be copied
     bytes: Vec<u8>,
     // how many bytes are the same in all
     same: usize,
-    // where the digits of the first number end
+    // where the first of both fields ends
     first_end: usize,
     // where both fields end
     len: usize,
-    // the numbers, with 0 for their last two digits
-    first: u64,
-    second: u64,
+    // the numbers that differ from the first in their last three digits alone, and those that differ so from the second
+    first: Thousand,
+    second: Thousand,
 }
 
 impl Model for LineFront {
@@ -167,15 +149,15 @@ impl LineFront {
         ensures { IfOk result (λ front. front ≡ bytes.items) }
     {
         let same = bytes.len();
-        bytes.extend_from_slice(&[0; TWO_NUMBERS + BLOCK])?;
+        bytes.extend_from_slice(&[0; TWO_NUMBERS + LONG])?;
         let (first_end, len) = write_numbers(&mut bytes, same, 100, 100);
         Ok(LineFront {
             bytes,
             same,
             first_end,
             len,
-            first: 100,
-            second: 100,
+            first: Thousand::hundreds(),
+            second: Thousand::hundreds(),
         })
     }
 
@@ -210,17 +192,21 @@ impl LineFront {
         ensures same { OnOk result (self.new ≡ self.old) }
         ensures front { IfOk result (λ end. take end lines.new.items
             ≡ lines.old.items ++ (self.old ++ (field (decimal first) 0x09 ++ field (decimal second) 0x09))) }
-        ensures room { IfOk result (λ end. end + 17 ≤ length lines.new.items) }
+        ensures after { IfOk result (λ end. end + 17 ≤ length lines.new.items) }
     {
-        if !(is_near(first, self.first) && is_near(second, self.second)) {
-            return self.add_anew(lines, first, second);
+        if let Some(one) = self.first.digits_of(first)
+            && let Some(two) = self.second.digits_of(second)
+        {
+            let first_four = u8x4::from_slice(one);
+            let second_four = u8x4::from_slice(two);
+            let start = lines.len();
+            let end = start + self.len;
+            add_block(lines, &self.bytes, self.len)?;
+            write_four(lines, start + self.first_end, first_four);
+            write_four(lines, end, second_four);
+            return Ok(end);
         }
-        let start = lines.len();
-        let end = start + self.len;
-        add_block(lines, &self.bytes, self.len)?;
-        write_pair(lines, start + self.first_end, first - self.first);
-        write_pair(lines, end - 1, second - self.second);
-        Ok(end)
+        self.add_anew(lines, first, second)
     }
 
     /// Adds the same, and keeps it, if both numbers have three digits or more.
@@ -234,16 +220,16 @@ impl LineFront {
         ensures same { OnOk result (self.new ≡ self.old) }
         ensures front { IfOk result (λ end. take end lines.new.items
             ≡ lines.old.items ++ (self.old ++ (field (decimal first) 0x09 ++ field (decimal second) 0x09))) }
-        ensures room { IfOk result (λ end. end + 17 ≤ length lines.new.items) }
+        ensures after { IfOk result (λ end. end + 17 ≤ length lines.new.items) }
     {
-        if !is_kept(first) || !is_kept(second) {
+        let (Some(one), Some(two)) = (Thousand::of(first), Thousand::of(second)) else {
             return add_whole(lines, &self.bytes[..self.same], first, second);
-        }
+        };
         let (first_end, len) = write_numbers(&mut self.bytes, self.same, first, second);
         self.first_end = first_end;
         self.len = len;
-        self.first = first - first % 100;
-        self.second = second - second % 100;
+        self.first = one;
+        self.second = two;
         let end = lines.len() + len;
         add_block(lines, &self.bytes, len)?;
         Ok(end)

@@ -3,5 +3,4 @@ use Rattle.lic_fields.proofs.line_front.write_text.Goals as goal
 
 pub returns-clause-written : goal.returns-clause-written
 returns-clause-written c =
-    text_written c.args.bytes.now c.args.text.now c.copy_from_slice.new.self c.args.end c.args.len
-    c.requires.0 c.requires.1.0 c.requires.1.1 c.copy_from_slice.ensures.after
+    text_written c.args.bytes.now c.args.text.now c.args.end c.args.len c.requires.0 c.requires.1.0 c.requires.1.1

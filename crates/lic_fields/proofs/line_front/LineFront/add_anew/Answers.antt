@@ -1,4 +1,4 @@
-use Rattle.std.proofs.Common.{◌≡◌, ◌-◌, ◌%◌, length, take, ap, sym, subst, ◌∙◌, arith}
+use Rattle.std.proofs.Common.{◌≡◌, length, take, ap, sym, subst, ◌∙◌, arith}
 use Rattle.std.proofs.lemmas.List.{with_items_is}
 use Rattle.lic_fields.specs.Fronts.{IsKept}
 use Rattle.lic_fields.proofs.LineFronts.{kept_of, same_stays}
@@ -6,37 +6,37 @@ use Rattle.lic_fields.proofs.line_front.LineFront.add_anew.Goals as goal
 
 pub invariant_of-self : goal.invariant_of-self
 invariant_of-self c =
-    let one = c.is_kept.ensures c.if-not-is_kept.false in
-    let two = c.is_kept-else-not-is_kept.ensures c.if-not-is_kept-2.false in
+    let one = c.in-Some-Some.ensures in
+    let two = c.in-Some-Some.ensures' in
     let kept = c.self.inside in
     let len = c.write_numbers-first_end.result.1 in
     let old = c.deref_mut.result.now in
     let bytes = c.write_numbers-first_end.new.bytes in
     let start : length old ≡ length kept.bytes.items = ap length c.deref_mut.ensures.value in
-    let room = c.self.invariant.room in
+    let enough = c.self.invariant.enough in
     let held = with_items_is kept.bytes bytes (omega (arith, c.write_numbers-first_end.auto, c.deref_mut.ensures.len)) in
     let long : length bytes ≡ length old = c.write_numbers-first_end.ensures.len in
-    subst (λ b. IsKept b kept.same c.write_numbers-first_end.result.0 len (c.args.first - c.args.first % 100) (c.args.second - c.args.second % 100)) (sym held)
-    (kept_of old bytes kept.same len c.args.first c.args.second (omega (arith, start, room)) (omega (arith, start, room, long, c.write_numbers-first_end.ensures.end))
-    c.write_numbers-first_end.ensures.written c.write_numbers-first_end.result.0 (one.1) (two.1) (one.0) (two.0)
-    c.write_numbers-first_end.ensures.first c.write_numbers-first_end.ensures.end (omega (arith, start, room, long)))
+    subst (λ b. IsKept b kept.same c.write_numbers-first_end.result.0 len c.in-Some-Some.one c.in-Some-Some.two) (sym held)
+    (kept_of old bytes kept.same len c.args.first c.args.second (omega (arith, start, enough)) (omega (arith, start, enough, long, c.write_numbers-first_end.ensures.end))
+    c.write_numbers-first_end.ensures.written c.write_numbers-first_end.result.0 _ _ one.0 two.0 one.1 two.1
+    c.write_numbers-first_end.ensures.first c.write_numbers-first_end.ensures.end (omega (arith, start, enough, long)))
 
 pub invariant_of-self-2 : goal.invariant_of-self-2
 invariant_of-self-2 c =
-    let one = c.is_kept.ensures c.if-not-is_kept.false in
-    let two = c.is_kept-else-not-is_kept.ensures c.if-not-is_kept-2.false in
+    let one = c.in-Some-Some.ensures in
+    let two = c.in-Some-Some.ensures' in
     let kept = c.self.inside in
     let len = c.write_numbers-first_end.result.1 in
     let old = c.deref_mut.result.now in
     let bytes = c.write_numbers-first_end.new.bytes in
     let start : length old ≡ length kept.bytes.items = ap length c.deref_mut.ensures.value in
-    let room = c.self.invariant.room in
+    let enough = c.self.invariant.enough in
     let held = with_items_is kept.bytes bytes (omega (arith, c.write_numbers-first_end.auto, c.deref_mut.ensures.len)) in
     let long : length bytes ≡ length old = c.write_numbers-first_end.ensures.len in
-    subst (λ b. IsKept b kept.same c.write_numbers-first_end.result.0 len (c.args.first - c.args.first % 100) (c.args.second - c.args.second % 100)) (sym held)
-    (kept_of old bytes kept.same len c.args.first c.args.second (omega (arith, start, room)) (omega (arith, start, room, long, c.write_numbers-first_end.ensures.end))
-    c.write_numbers-first_end.ensures.written c.write_numbers-first_end.result.0 (one.1) (two.1) (one.0) (two.0)
-    c.write_numbers-first_end.ensures.first c.write_numbers-first_end.ensures.end (omega (arith, start, room, long)))
+    subst (λ b. IsKept b kept.same c.write_numbers-first_end.result.0 len c.in-Some-Some.one c.in-Some-Some.two) (sym held)
+    (kept_of old bytes kept.same len c.args.first c.args.second (omega (arith, start, enough)) (omega (arith, start, enough, long, c.write_numbers-first_end.ensures.end))
+    c.write_numbers-first_end.ensures.written c.write_numbers-first_end.result.0 _ _ one.0 two.0 one.1 two.1
+    c.write_numbers-first_end.ensures.first c.write_numbers-first_end.ensures.end (omega (arith, start, enough, long)))
 
 pub returns-clause-same : goal.returns-clause-same
 returns-clause-same c =
@@ -44,10 +44,10 @@ returns-clause-same c =
     let old = c.deref_mut.result.now in
     let bytes = c.write_numbers-first_end.new.bytes in
     let start : length old ≡ length kept.bytes.items = ap length c.deref_mut.ensures.value in
-    let room = c.self.invariant.room in
+    let enough = c.self.invariant.enough in
     let held = with_items_is kept.bytes bytes (omega (arith, c.write_numbers-first_end.auto, c.deref_mut.ensures.len)) in
     let long : length bytes ≡ length old = c.write_numbers-first_end.ensures.len in
     ap (take kept.same) held
-    ∙ (same_stays old bytes kept.same c.write_numbers-first_end.result.1 c.args.first c.args.second (omega (arith, start, room))
-    (omega (arith, start, room, long, c.write_numbers-first_end.ensures.end)) c.write_numbers-first_end.ensures.written
+    ∙ (same_stays old bytes kept.same c.write_numbers-first_end.result.1 c.args.first c.args.second (omega (arith, start, enough))
+    (omega (arith, start, enough, long, c.write_numbers-first_end.ensures.end)) c.write_numbers-first_end.ensures.written
     ∙ (ap (take kept.same) c.deref_mut.ensures.value ∙ c.self.view_is))

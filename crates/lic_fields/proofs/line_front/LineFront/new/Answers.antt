@@ -1,8 +1,9 @@
-use Rattle.std.proofs.Common.{◌≡◌, ◌+◌, length, take, ap, sym, subst, ◌∙◌, arith, length-append}
+use Rattle.std.proofs.Common.{◌≡◌, ◌+◌, [], length, take, ap, sym, ◌∙◌, arith, length-append}
 use Rattle.std.proofs.lemmas.Grind.{common_steps}
 use Rattle.std.proofs.lemmas.List.{with_items_is, take_at}
-use Rattle.lic_fields.specs.Fronts.{IsKept}
+use Rattle.lic_fields.specs.Fronts.{last_digits}
 use Rattle.lic_fields.proofs.LineFronts.{kept_of, same_stays}
+use Rattle.lic_fields.proofs.Thousands.{ends_three}
 use Rattle.lic_fields.proofs.line_front.LineFront.new.Goals as goal
 
 pub invariant_of-result : goal.invariant_of-result
@@ -12,13 +13,14 @@ invariant_of-result c =
     let old = c.deref_mut.result.now in
     let bytes = c.write_numbers-first_end.new.bytes in
     let start : same ≡ length c.args.bytes.items = grind (arith, common_steps) in
-    let more : length old ≡ length c.args.bytes.items + 138 =
+    let more : length old ≡ length c.args.bytes.items + 170 =
     ap length (c.deref_mut.ensures.value ∙ c.in_ok-extend_from_slice.ensures.items) ∙ length-append c.args.bytes.items _ in
     let held = with_items_is c.extend_from_slice.new.self bytes (omega (arith, c.write_numbers-first_end.auto, c.deref_mut.ensures.len)) in
     let long : length bytes ≡ length old = c.write_numbers-first_end.ensures.len in
-    subst (λ b. IsKept b same c.write_numbers-first_end.result.0 len 100 100) (sym held)
+    let hundred = ends_three 100 (omega arith) (omega arith) in
+    rw (held, c.hundreds.ensures, c.hundreds-2.ensures)
     (kept_of old bytes same len 100 100 (omega (arith, start, more)) (omega (arith, start, more, long, c.write_numbers-first_end.ensures.end))
-    c.write_numbers-first_end.ensures.written c.write_numbers-first_end.result.0 (omega arith) (omega arith) (omega arith) (omega arith)
+    c.write_numbers-first_end.ensures.written c.write_numbers-first_end.result.0 [] [] (last_digits 100) (last_digits 100) hundred hundred
     c.write_numbers-first_end.ensures.first c.write_numbers-first_end.ensures.end (omega (arith, start, more, long)))
 
 pub returns : goal.returns
@@ -29,7 +31,7 @@ returns c =
     let bytes = c.write_numbers-first_end.new.bytes in
     let start : same ≡ length c.args.bytes.items = grind (arith, common_steps) in
     let added = c.deref_mut.ensures.value ∙ c.in_ok-extend_from_slice.ensures.items in
-    let more : length old ≡ length c.args.bytes.items + 138 = ap length added ∙ length-append c.args.bytes.items _ in
+    let more : length old ≡ length c.args.bytes.items + 170 = ap length added ∙ length-append c.args.bytes.items _ in
     let held = with_items_is c.extend_from_slice.new.self bytes (omega (arith, c.write_numbers-first_end.auto, c.deref_mut.ensures.len)) in
     let long : length bytes ≡ length old = c.write_numbers-first_end.ensures.len in
     ap (take same) held
