@@ -48,18 +48,15 @@ module _ (old letters : List ℕ) (place len n : ℕ) (fits : place + (n + 1) �
   front false =
       ap (λ m. take m blank_put) (let e : place + 0 ≡ place = omega arith in e) ∙ take-set old place 0x20 ∙ sym (append-nil (take place old))
 
-  pub written : (blank : Bool) (start k : ℕ) (copied : List ℕ) → start ≡ place + from_bool blank → copied ≡ take n letters
-      → take (start + len) (put_mid start k blank_put copied) ≡ take place old ++ (blank_if blank ++ take len letters)
-  written blank start k copied is same =
-      let before = take start blank_put in
-      let whole = put_mid start k blank_put copied in
+  pub written : (blank : Bool) (start : ℕ) (whole : List ℕ) → start ≡ place + from_bool blank → take (start + n) whole ≡ take start blank_put ++ take n letters
+      → take (start + len) whole ≡ take place old ++ (blank_if blank ++ take len letters)
+  written blank start whole is copied =
       let within : start ≤ length blank_put = omega (arith, is, small_bool blank, fits, length-set old place 0x20) in
-      let wide : length copied ≡ n = ap length same ∙ length-take-le n letters long in
       sym (take-take (start + len) (start + n) whole (omega (arith, short)))
-      ∙ ap (take (start + len)) (take-put_mid start k blank_put copied (start + n) (omega (arith, wide)) within)
-      ∙ ap (λ m. take (m + len) (before ++ copied)) (sym (length-take-le start blank_put within))
-      ∙ take-append-add before copied len
-      ∙ ap₂ (λ (a b : List ℕ). a ++ b) (ap (λ m. take m blank_put) is ∙ front blank) (ap (take len) same ∙ take-take len n letters short)
+      ∙ ap (take (start + len)) copied
+      ∙ ap (λ m. take (m + len) (take start blank_put ++ take n letters)) (sym (length-take-le start blank_put within))
+      ∙ take-append-add (take start blank_put) (take n letters) len
+      ∙ ap₂ (λ (a b : List ℕ). a ++ b) (ap (λ m. take m blank_put) is ∙ front blank) (take-take len n letters short)
       ∙ append_assoc (take place old) (blank_if blank) (take len letters)
 
 -- whether a text ends in a word, by its last byte

@@ -1,5 +1,5 @@
 //! Plain tokens of lines that are spelled together.
-ghost use Rattle.std.specs.Prelude.{◌≡◌, ◌+◌, ◌++◌, ◌^◌, ◌≤◌, ◌<◌, false, length, drop, slice_index, slice_index_or, take};
+ghost use Rattle.std.specs.Prelude.{◌≡◌, ◌+◌, ◌++◌, ◌^◌, ◌≤◌, ◌<◌, ◌⊎◌, false, length, drop, slice_index, slice_index_or, take};
 ghost use Rattle.std.specs.Prelude.{IfSome, IsUtf8};
 ghost use Rattle.lic_columns.specs.Bytes.{is_word};
 ghost use Rattle.lic_columns.specs.PlainLines.{HasWords};
@@ -15,6 +15,7 @@ use crate::rewriting::Rewriting;
 use crate::stretch::Stretch;
 use crate::word_bytes::is_word_byte;
 use lic_phrases::{Phrases, Rewriter};
+use std::simd::prelude::*;
 
 /// So many letters are copied at once: most texts have fewer.
 const COPIED: usize = 16;
@@ -64,6 +65,22 @@ impl Batch {
     }
 }
 
+/// Copies 16 or 32 letters to a place, by registers: a copy of any length would ask first whether it reads what it writes.
+#[inline(always)]
+fn copy_letters(bytes: &mut [u8], place: usize, letters: &[u8], wide: usize)
+    requires lanes { (wide ≡ COPIED) ⊎ (wide ≡ MOST) }
+    requires fits { place + wide ≤ length bytes.old }
+    requires long { wide ≤ length letters.now }
+    ensures long { length bytes.new ≡ length bytes.old }
+    ensures copied { take (place + wide) bytes.new ≡ take place bytes.old ++ take wide letters.now }
+{
+    if wide == COPIED {
+        u8x16::from_slice(letters).copy_to_slice(&mut bytes[place..]);
+    } else {
+        u8x32::from_slice(letters).copy_to_slice(&mut bytes[place..]);
+    }
+}
+
 /// Writes a text of so many letters, with which these begin, after a blank or not: gives the place after it. The blank and `wide`
 /// letters are written in any case, and what is too much is written over: so nothing depends on the length.
 #[inline(always)]
@@ -75,6 +92,7 @@ fn put(
     len: usize,
     wide: usize,
 ) -> usize
+    requires lanes { (wide ≡ COPIED) ⊎ (wide ≡ MOST) }
     requires fits { place + (wide + 1) ≤ BYTES }
     requires long { wide ≤ length letters.now }
     requires short { len ≤ wide }
@@ -83,7 +101,7 @@ fn put(
 {
     bytes[place] = b' ';
     let start = place + usize::from(blank);
-    bytes[start..start + wide].copy_from_slice(&letters[..wide]);
+    copy_letters(bytes, start, letters, wide);
     start + len
 }
 
@@ -239,6 +257,7 @@ fn put_token(
     requires texts { HaveTexts stretch.now }
     requires held { AreInBatch stretch.now i rewriting.now batch.old state }
     requires text { (d : _) → text.now ≡ (slice_index_or stretch.now state.next d).text }
+    requires lanes { (wide ≡ COPIED) ⊎ (wide ≡ MOST) }
     requires most { wide ≤ MOST }
     requires short { length text.now ≤ wide }
     requires front { text.now ≡ take (length text.now) letters.now }
