@@ -27,7 +27,7 @@ use Rattle.lic_columns.proofs.SpanLemmas.{Fit}
 use Rattle.lic_columns.proofs.FlagCells.{flag_at-cells}
 use Rattle.lic_columns.proofs.LineTokens.{IsOfCells, tokens_of_cells, ascii_is}
 
--- so many blanks
+-- n blanks
 abbrev pub spaces : ℕ → List Cell
 spaces n = replicate n Blank
 
@@ -165,20 +165,20 @@ module _ (cut : LineCut) (line : List SourceChar) (within : cut.lead + cut.item 
       )
 
   -- the line between others
-  pub edges_are : (at : ℕ) (text : List ℕ) (front behind : List Cell) (known : Known) (place end : ℕ) → place ≡ length front → end ≡ length front + length line
-      → IsOfCells at text (front ++ (map cell_of line ++ behind)) known
-      → IsOfCells at text (front ++ (standing cut line ++ behind)) (edges_blanked cut place end known)
-  edges_are at text front behind known place end is_place is_end is =
-      let whole : front ++ (map cell_of line ++ behind) ≡ front ++ (taken_first ++ (middle ++ (taken_last ++ behind))) =
-      ap (λ l. front ++ (l ++ behind)) in_three
-      ∙ ap (λ l. front ++ l) (append_assoc taken_first (middle ++ taken_last) behind ∙ ap (λ l. taken_first ++ l) (append_assoc middle taken_last behind)) in
-      let once : IsOfCells at text (front ++ (spaces (length taken_first) ++ (middle ++ (taken_last ++ behind)))) (blanked place (place + first) known) =
-      blank_middle at text front taken_first (middle ++ (taken_last ++ behind)) known place (place + first) is_place (omega (arith, is_place, length_first))
+  pub edges_are : (at : ℕ) (text : List ℕ) (front following : List Cell) (known : Known) (place end : ℕ) → place ≡ length front → end ≡ length front + length line
+      → IsOfCells at text (front ++ (map cell_of line ++ following)) known
+      → IsOfCells at text (front ++ (standing cut line ++ following)) (edges_blanked cut place end known)
+  edges_are at text front following known place end is_place is_end is =
+      let whole : front ++ (map cell_of line ++ following) ≡ front ++ (taken_first ++ (middle ++ (taken_last ++ following))) =
+      ap (λ l. front ++ (l ++ following)) in_three
+      ∙ ap (λ l. front ++ l) (append_assoc taken_first (middle ++ taken_last) following ∙ ap (λ l. taken_first ++ l) (append_assoc middle taken_last following)) in
+      let once : IsOfCells at text (front ++ (spaces (length taken_first) ++ (middle ++ (taken_last ++ following)))) (blanked place (place + first) known) =
+      blank_middle at text front taken_first (middle ++ (taken_last ++ following)) known place (place + first) is_place (omega (arith, is_place, length_first))
       (subst (λ l. IsOfCells at text l known) whole is) in
       let before = front ++ (spaces (length taken_first) ++ middle) in
-      let parted : front ++ (spaces (length taken_first) ++ (middle ++ (taken_last ++ behind))) ≡ before ++ (taken_last ++ behind) =
-      ap (λ l. front ++ l) (sym (append_assoc (spaces (length taken_first)) middle (taken_last ++ behind)))
-      ∙ sym (append_assoc front (spaces (length taken_first) ++ middle) (taken_last ++ behind)) in
+      let parted : front ++ (spaces (length taken_first) ++ (middle ++ (taken_last ++ following))) ≡ before ++ (taken_last ++ following) =
+      ap (λ l. front ++ l) (sym (append_assoc (spaces (length taken_first)) middle (taken_last ++ following)))
+      ∙ sym (append_assoc front (spaces (length taken_first) ++ middle) (taken_last ++ following)) in
       let size : length before ≡ length front + (first + kept) =
       omega (
         arith,
@@ -188,15 +188,15 @@ module _ (cut : LineCut) (line : List SourceChar) (within : cut.lead + cut.item 
         length_first,
         length_middle,
       ) in
-      let twice : IsOfCells at text (before ++ (spaces (length taken_last) ++ behind)) (edges_blanked cut place end known) =
-      blank_middle at text before taken_last behind (blanked place (place + first) known) (end - cut.tail) end
+      let twice : IsOfCells at text (before ++ (spaces (length taken_last) ++ following)) (edges_blanked cut place end known) =
+      blank_middle at text before taken_last following (blanked place (place + first) known) (end - cut.tail) end
       (omega (arith, size, is_place, is_end, length-drop first line)) (omega (arith, size, is_place, is_end, length-drop first line, length_last))
       (subst (λ l. IsOfCells at text l (blanked place (place + first) known)) parted once) in
-      let whole_again : before ++ (spaces (length taken_last) ++ behind) ≡ front ++ (standing cut line ++ behind) =
-      ap₂ (λ m l. (front ++ (spaces m ++ middle)) ++ (spaces l ++ behind)) length_first length_last
-      ∙ ap (λ l. (front ++ (l ++ middle)) ++ (spaces cut.tail ++ behind)) (sym (spaces-add cut.lead cut.item))
-      ∙ append_assoc front ((spaces cut.lead ++ spaces cut.item) ++ middle) (spaces cut.tail ++ behind)
-      ∙ ap (λ l. front ++ l) (sym (append_assoc ((spaces cut.lead ++ spaces cut.item) ++ middle) (spaces cut.tail) behind)) in
+      let whole_again : before ++ (spaces (length taken_last) ++ following) ≡ front ++ (standing cut line ++ following) =
+      ap₂ (λ m l. (front ++ (spaces m ++ middle)) ++ (spaces l ++ following)) length_first length_last
+      ∙ ap (λ l. (front ++ (l ++ middle)) ++ (spaces cut.tail ++ following)) (sym (spaces-add cut.lead cut.item))
+      ∙ append_assoc front ((spaces cut.lead ++ spaces cut.item) ++ middle) (spaces cut.tail ++ following)
+      ∙ ap (λ l. front ++ l) (sym (append_assoc ((spaces cut.lead ++ spaces cut.item) ++ middle) (spaces cut.tail) following)) in
       subst (λ l. IsOfCells at text l (edges_blanked cut place end known)) whole_again twice
 
 -- ---- as many blanks as bytes are as good as one

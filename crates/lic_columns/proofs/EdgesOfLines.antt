@@ -138,23 +138,23 @@ module _ (rules : LineRules) (at : ℕ) (text : List ℕ) where
   lines_are (line ∷ lines) front place known here ascii is =
       let rest = joined lines in
       let source = placed (at + place) line in
-      let behind = placed (at + place + length line) rest in
+      let following = placed (at + place + length line) rest in
       let cut = cut_of rules whole_line line in
       let blanked_here : Known = edges_blanked cut place (place + length line) known in
       let long : length source ≡ length line = length-placed (at + place) line in
       let fit : cut.lead + cut.item + cut.tail ≤ length source = omega (arith, long, cut_within rules line cut refl) in
-      let parts : map cell_of (placed (at + place) (line ++ rest)) ≡ map cell_of source ++ map cell_of behind =
-      ap (map cell_of) (placed-append (at + place) line rest ascii) ∙ map-append cell_of source behind in
+      let parts : map cell_of (placed (at + place) (line ++ rest)) ≡ map cell_of source ++ map cell_of following =
+      ap (map cell_of) (placed-append (at + place) line rest ascii) ∙ map-append cell_of source following in
       let next = front ++ standing cut source in
       let end : place + length line ≡ length next =
       omega (arith, here, long, length-append front (standing cut source), length-standing cut source fit) in
       let sum : at + place + length line ≡ at + (place + length line) = omega arith in
-      let this : IsOfCells at text (front ++ (standing cut source ++ map cell_of behind)) blanked_here =
-      edges_are cut source fit at text front (map cell_of behind) known place (place + length line) here (omega (arith, here, long))
+      let this : IsOfCells at text (front ++ (standing cut source ++ map cell_of following)) blanked_here =
+      edges_are cut source fit at text front (map cell_of following) known place (place + length line) here (omega (arith, here, long))
       (subst (λ l. IsOfCells at text (front ++ l) known) parts is) in
       let those : IsOfCells at text (next ++ map cell_of (placed (at + (place + length line)) rest)) blanked_here =
       subst (λ l. IsOfCells at text l blanked_here)
-      (sym (append_assoc front (standing cut source) (map cell_of behind)) ∙ ap (λ n. next ++ map cell_of (placed n rest)) sum) this in
+      (sym (append_assoc front (standing cut source) (map cell_of following)) ∙ ap (λ n. next ++ map cell_of (placed n rest)) sum) this in
       let same : next ++ flat_map (standing_line rules) (placed_lines (at + (place + length line)) lines)
       ≡ front ++ (standing_line rules source ++ flat_map (standing_line rules) (placed_lines (at + place + length line) lines)) =
       append_assoc front (standing cut source) (flat_map (standing_line rules) (placed_lines (at + (place + length line)) lines))

@@ -182,28 +182,28 @@ mark_flag b s e small =
 
 -- ---- texts of ASCII
 
-behind : (b : ℕ) (text : List ℕ) → IsAscii (b ∷ text) → IsAscii text
-behind b text ascii = λ i. ascii (suc i)
+following : (b : ℕ) (text : List ℕ) → IsAscii (b ∷ text) → IsAscii text
+following b text ascii = λ i. ascii (suc i)
 
 pub ascii_fits : (at : ℕ) (text : List ℕ) → IsAscii text → Fit at text (map cell_of (placed at text))
 ascii_fits at [] ascii = tt
 ascii_fits at (b ∷ text) ascii =
     let one : suc at ≡ at + len_utf8 b = omega (arith, len_utf8_ascii b (ascii 0)) in (
       byte_fits at b (ascii 0),
-      subst (λ n. Fit (suc at) text (map cell_of (placed n text))) one (ascii_fits (suc at) text (behind b text ascii)),
+      subst (λ n. Fit (suc at) text (map cell_of (placed n text))) one (ascii_fits (suc at) text (following b text ascii)),
     )
 
 pub ascii_words : (at : ℕ) (text : List ℕ) → IsAscii text → map bytes.is_word text ≡ words (map cell_of (placed at text))
 ascii_words at [] ascii = refl
 ascii_words at (b ∷ text) ascii =
     ap₂ (λ w l. w ∷ l) (word_flag b (byte_char at b) refl (ascii 0))
-    (ascii_words (at + len_utf8 b) text (behind b text ascii))
+    (ascii_words (at + len_utf8 b) text (following b text ascii))
 
 pub ascii_marks : (at : ℕ) (text : List ℕ) → IsAscii text → map bytes.is_mark text ≡ marks (map cell_of (placed at text))
 ascii_marks at [] ascii = refl
 ascii_marks at (b ∷ text) ascii =
     ap₂ (λ m l. m ∷ l) (mark_flag b (byte_char at b) refl (ascii 0))
-    (ascii_marks (at + len_utf8 b) text (behind b text ascii))
+    (ascii_marks (at + len_utf8 b) text (following b text ascii))
 
 pub ascii_is : (at : ℕ) (text : List ℕ) → IsAscii text → IsOfCells at text (map cell_of (placed at text)) (known_of text)
 ascii_is at text ascii = record {

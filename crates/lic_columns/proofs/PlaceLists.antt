@@ -30,7 +30,7 @@ places-few at (false ∷ flags) = let few = places-few (suc at) flags in omega a
 pub places_of_mask : (at mask : ℕ) → mask < 2 ^ 64 → length (places at (bits_of 64 mask)) ≡ count_ones mask
 places_of_mask at mask fits = length-places at (bits_of 64 mask) ∙ ap count_ones (sym (mask_is mask (bits_of 64 mask) (IsMask-bits_of mask fits)))
 
--- ---- what is left of a mask after so many places
+-- ---- what is left of a mask after i places
 
 drop_tail : (i : ℕ) (listed rest : List ℕ) (x : ℕ) → drop i listed ≡ x ∷ rest → drop (suc i) listed ≡ rest
 drop_tail zero [] rest x e = absurd cc

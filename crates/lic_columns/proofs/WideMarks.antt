@@ -38,7 +38,7 @@ abbrev dull_cell : ℕ → Bool → Cell
 dull_cell b true = Mark (record { char = b; start = 0; end = 0 })
 dull_cell b false = Blank
 
--- a mark for each byte in whose place a mark is spelled, told from others by the byte of the source
+-- a mark for each byte in whose place a mark is spelled, known from others by the byte of the source
 abbrev dull : List ℕ → List ℕ → List Cell
 dull [] spelled = []
 dull (b ∷ source) [] = []

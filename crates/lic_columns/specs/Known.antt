@@ -11,14 +11,14 @@ pub record Known : Type 0 where
   pub mark : List Bool
   pub feed : List Bool
 
--- something is known of so many bytes
+-- something is known of n bytes
 pub record HasLength (n : ℕ) (known : Known) : Type 0 where
   pub letters : length known.letters ≡ n
   pub word : length known.word ≡ n
   pub mark : length known.mark ≡ n
   pub feed : length known.feed ≡ n
 
--- something is known of so many bytes, and none is a word character and a mark
+-- something is known of n bytes, and none is a word character and a mark
 pub record IsText (n : ℕ) (known : Known) : Type 0 where
   pub whole : HasLength n known
   pub apart : (k : ℕ) → (flag_at known.word k && flag_at known.mark k) ≡ false

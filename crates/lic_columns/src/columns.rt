@@ -93,7 +93,7 @@ impl Columns {
         Ok(())
     }
 
-    /// Lets go of what is held, and has room for so many bytes.
+    /// Lets go of what is held, and makes the lists long enough for `len` bytes.
     fn start(&mut self, len: usize) -> Result<(), AllocError>
         ensures { IfOk result (λ _. self.new ≡ known_of []) }
     {

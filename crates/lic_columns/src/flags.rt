@@ -47,7 +47,7 @@ impl Flags {
         self.len
     }
 
-    /// Lets go of all flags, and has room for so many.
+    /// Lets go of all flags, and makes the list long enough for this number of them.
     ///
     /// # Errors
     /// Memory ran out.

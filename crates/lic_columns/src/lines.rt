@@ -22,7 +22,7 @@ use lic_trim::SourceChar;
 use std::alloc::{AllocError, Global};
 use std::marker::Model;
 
-/// At most so many characters of a line are kept.
+/// The most characters of a line that are kept.
 const MAX_KEPT: usize = 65_536;
 
 /// The tokens of lines of ASCII or of simple characters, read 64 bytes at a time. What it holds from one text to the next is buffers alone.
@@ -56,7 +56,7 @@ fn give_back(alloc: Global, characters: &mut Vec<SourceChar>)
 }
 
 impl Lines {
-    /// Room that takes no memory yet.
+    /// Buffers that take no memory yet.
     pub fn new(alloc: Global) -> Lines
         ensures { result ≡ record { letters = []; starts = []; ends = [] } }
     {

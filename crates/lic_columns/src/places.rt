@@ -83,7 +83,7 @@ impl Places {
         &self.list[..self.len]
     }
 
-    /// Lets go of all places, and makes the list long enough for so many.
+    /// Lets go of all places, and makes the list long enough for this number of them.
     ///
     /// # Errors
     /// Memory ran out. No place is then listed.

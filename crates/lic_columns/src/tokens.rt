@@ -14,7 +14,7 @@ use crate::mask::{but_not, moved_down, moved_up};
 use crate::places::Places;
 use std::alloc::AllocError;
 
-/// Room is made for a token in so many bytes.
+/// Memory is taken for a token in this number of bytes.
 const BYTES_OF_A_TOKEN: usize = 4;
 
 /// At which places of a column a token begins; of the words of the column before the last place alone has an effect.

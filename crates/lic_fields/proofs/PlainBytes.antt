@@ -27,7 +27,7 @@ plain-front n bytes plain = plain-stay (take n bytes) (All-take (λ b. escaped_b
 pub block_cut : (old bytes : List ℕ) (n wide : ℕ) → n ≤ wide → take (length old + n) (old ++ take wide bytes) ≡ old ++ take n bytes
 block_cut old bytes n wide short = take-append-add old (take wide bytes) n ∙ ap (λ l. old ++ l) (take-take n wide bytes short)
 
--- those at the front of so many as are copied together
+-- those at the front of the bytes that are copied together
 pub front-is : (bytes : List ℕ) (n wide : ℕ) → n ≤ wide → ArePlain (take wide bytes) → escaped (take n bytes) ≡ take n bytes
 front-is bytes n wide short plain =
     ap escaped (sym (take-take n wide bytes short))

@@ -1,4 +1,4 @@
--- The bytes of a character beyond ASCII, of which the first is told from the others.
+-- The bytes of a character beyond ASCII, of which the first is known from the others.
 use Rattle.std.proofs.Common.{◌≡◌, ◌⊎◌, ℕ, ◌+◌, ◌<◌, ◌≤◌, List, [], ◌∷◌, ◌++◌, inl, inr, sym, ◌∙◌, arith, subst}
 use Rattle.std.specs.Prelude.{◌/◌, ◌%◌, encode_utf8_all, nat_lt}
 use Rattle.std.specs.Char.{encode_utf8}

@@ -7,7 +7,7 @@ use Rattle.std.proofs.lemmas.Nat.{and_le_r}
 use Rattle.std.proofs.lemmas.Nat.Bits.{bit_at-trailing_zeros}
 use Rattle.std.proofs.lemmas.Simd.{Each1-all, Each1-weaker, Each1-zip2, Each2-splat, below_from_Fits, length-zip2, swz_l, SwzOk, SwzOk-from_below, length-swz_l, get_or-swz_l_below, zip2_of_maps, zip2_splat}
 use lib.Lanes.{zip2, mask_l, top, Each1}
-use Rattle.lic_letters.specs.OwnLetters.{class_in, goes_on}
+use Rattle.lic_letters.specs.OwnLetters.{class_in, continues}
 use Rattle.lic_letters.proofs.BitLemmas.{has_bit-mask_l, has_bit_not, has_bit_zero}
 use Rattle.lic_letters.proofs.Lanes.{all_ones, down, lane_fits, mask_of}
 use Rattle.lic_trim.specs.PieceLengths.{has_bit}
@@ -32,8 +32,8 @@ bit_past p xs zs i few e past =
 abbrev pub is_on : ℕ → Bool
 is_on b = ltb ((b + (2 ^ 8 - 128)) % 2 ^ 8) 64
 
-pub is_on-goes_on : (b : ℕ) → b < 256 → is_on b ≡ goes_on b
-is_on-goes_on b small = agree_below_at is_on goes_on 256 b refl small
+pub is_on-continues : (b : ℕ) → b < 256 → is_on b ≡ continues b
+is_on-continues b small = agree_below_at is_on continues 256 b refl small
 
 -- ---- look-ups
 

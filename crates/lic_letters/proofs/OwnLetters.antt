@@ -21,7 +21,7 @@ use Rattle.lic_kind.proofs.PlainWords.{words_without_case, letters_without_case}
 use Rattle.lic_kind.proofs.WordFoldings.{spell-folding}
 use Rattle.lic_trim.proofs.ItemLemmas.{in_range}
 use Rattle.lic_letters.specs.declared.wide.own.TheConstants.{TWO_FIRST_LOW, TWO_FIRST_HIGH, TWO_SECOND_LOW, TWO_SECOND_HIGH, THREE_FIRST_LOW, THREE_FIRST_HIGH, THREE_SECOND_LOW, THREE_SECOND_HIGH}
-use Rattle.lic_letters.specs.OwnLetters.{are_common, begins_two, begins_three, class_in, goes_on}
+use Rattle.lic_letters.specs.OwnLetters.{are_common, begins_two, begins_three, class_in, continues}
 use Rattle.lic_letters.specs.Simple.{AreOwn}
 use Rattle.lic_letters.proofs.Lanes.{below, every_below}
 use Rattle.lic_letters.proofs.WideBytes.{letter_own, two_is, three_is}
@@ -229,7 +229,7 @@ letter_three a b d h c are d_low d_high is e f =
     three_far h c (d - 128) (omega (arith, e, are.a_high, are.b_high)) (omega (arith, d_low, d_high)) f (ap₂ begins_three first second ∙ is)
 
 pub three_own : (bytes : List ℕ) → 3 ≤ length bytes → get_or bytes 0 0 < 256 → get_or bytes 1 0 < 256
-    → begins_three (get_or bytes 0 0) (get_or bytes 1 0) ≡ true → goes_on (get_or bytes 2 0) ≡ true → AreOwn bytes 3
+    → begins_three (get_or bytes 0 0) (get_or bytes 1 0) ≡ true → continues (get_or bytes 2 0) ≡ true → AreOwn bytes 3
 three_own bytes long small_a small_b is goes =
     let a : ℕ = get_or bytes 0 0 in
     let b : ℕ = get_or bytes 1 0 in

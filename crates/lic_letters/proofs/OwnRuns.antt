@@ -3,7 +3,7 @@ use Rattle.std.proofs.Common.{◌≡◌, ◌⊎◌, ℕ, zero, suc, ◌+◌, ◌
 use Rattle.std.specs.Prelude.{nat_le, nat_lt}
 use Rattle.std.proofs.lemmas.Bool.{and_parts, or_cases, cases_eq, cases_lt}
 use Rattle.std.proofs.lemmas.List.{get_or-drop, length-drop}
-use Rattle.lic_letters.specs.OwnLetters.{begins_two, begins_three, goes_on}
+use Rattle.lic_letters.specs.OwnLetters.{begins_two, begins_three, continues}
 use Rattle.lic_letters.specs.Simple.{AreOwn}
 use Rattle.lic_letters.proofs.BitLemmas.{has_bit_and, has_bit_or, has_bit_shl, has_bit_shl_low}
 use Rattle.lic_letters.proofs.OwnLetters.{two_own, three_own, two_leads, three_leads}
@@ -236,7 +236,7 @@ module _ (bytes first second third : List ℕ) (ascii starts ons n : ℕ) (long 
     (ascii_above : (i : ℕ) → 16 ≤ i → has_bit ascii i ≡ false)
     (three_bits : (i : ℕ) → i < 16 → has_bit starts i ≡ begins_three (get_or first i 0) (get_or second i 0))
     (three_above : (i : ℕ) → 16 ≤ i → has_bit starts i ≡ false)
-    (on_bits : (i : ℕ) → i < 16 → has_bit ons i ≡ goes_on (get_or third i 0)) where
+    (on_bits : (i : ℕ) → i < 16 → has_bit ons i ≡ continues (get_or third i 0)) where
   abbrev three_begins : ℕ
   three_begins = bit_and starts ons
 
@@ -276,7 +276,7 @@ module _ (bytes first second third : List ℕ) (ascii starts ons n : ℕ) (long 
       let two : get_or second i 0 ≡ get_or bytes (i + 1) 0 = nexts i few ∙ ap (λ k. get_or bytes k 0) next in
       let three : get_or third i 0 ≡ get_or bytes (i + 2) 0 = lasts i few ∙ ap (λ k. get_or bytes k 0) last in
       let both : begins_three (get_or bytes i 0) (get_or bytes (i + 1) 0) ≡ true = ap₂ begins_three (sym one) (sym two) ∙ sym (three_bits i few) ∙ parts.0 in
-      let on : goes_on (get_or bytes (i + 2) 0) ≡ true = ap goes_on (sym three) ∙ sym (on_bits i few) ∙ parts.1 in
+      let on : continues (get_or bytes (i + 2) 0) ≡ true = ap continues (sym three) ∙ sym (on_bits i few) ∙ parts.1 in
       let leads = three_leads (get_or bytes i 0) (get_or bytes (i + 1) 0) (small i) (small (i + 1)) both in
       let goes = and_parts (nat_le 128 (get_or bytes (i + 2) 0)) (nat_lt (get_or bytes (i + 2) 0) 192) on in
       let less : get_or bytes (i + 2) 0 < 192 = ltb-true (get_or bytes (i + 2) 0) 192 goes.1 in
@@ -287,7 +287,7 @@ module _ (bytes first second third : List ℕ) (ascii starts ons n : ℕ) (long 
       record {
         lead = omega (arith, leads.0);
         own = three_own (drop i bytes) (omega (arith, length-drop i bytes, few, long)) (omega (arith, a, small i)) (omega (arith, b, small (i + 1)))
-            (ap₂ begins_three a b ∙ both) (ap goes_on d ∙ on);
+            (ap₂ begins_three a b ∙ both) (ap continues d ∙ on);
         rest = λ j more less_than. elim (cases_eq j 1) [
           | inl is_one ↦ let same : get_or bytes (i + j) 0 ≡ get_or bytes (i + 1) 0 = ap (λ k. get_or bytes (i + k) 0) is_one in omega (arith, same, leads.1)
           | inr other ↦

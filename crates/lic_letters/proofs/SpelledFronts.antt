@@ -88,11 +88,11 @@ not_high b not = elim (cases_lt b 128) [
 -- of 16 bytes those before the first that is beyond ASCII
 pub before_high_own : (bytes : List ℕ) (n : ℕ) → 16 ≤ length bytes → n ≡ prefix_len (λ b. not (nat_le 128 b)) (chunk 0 16 bytes) → AreOwn bytes n
 before_high_own bytes n long counted =
-    let room : 0 + 16 ≤ length bytes = omega (arith, long) in
-    let few : n ≤ 16 = run_in_chunk_le (λ b. nat_le 128 b) bytes 0 16 n 0 room counted in
+    let fits : 0 + 16 ≤ length bytes = omega (arith, long) in
+    let few : n ≤ 16 = run_in_chunk_le (λ b. nat_le 128 b) bytes 0 16 n 0 fits counted in
     ascii_own n bytes (omega (arith, long, few))
     (low_take n bytes (λ k lt. not_high (get_or bytes k 0)
-    (run_in_chunk_fails (λ b. nat_le 128 b) bytes 0 16 n 0 room counted k (omega arith) (omega (arith, lt)))))
+    (run_in_chunk_fails (λ b. nat_le 128 b) bytes 0 16 n 0 fits counted k (omega arith) (omega (arith, lt)))))
 
 -- ---- one after another
 

@@ -18,6 +18,6 @@ begins_two a b = are_common (class_in TWO_FIRST_LOW TWO_FIRST_HIGH a) (class_in 
 abbrev pub begins_three : ℕ → ℕ → Bool
 begins_three a b = are_common (class_in THREE_FIRST_LOW THREE_FIRST_HIGH a) (class_in THREE_SECOND_LOW THREE_SECOND_HIGH b)
 
--- a character goes on with this byte
-abbrev pub goes_on : ℕ → Bool
-goes_on b = nat_le 128 b && nat_lt b 192
+-- a character continues with this byte
+abbrev pub continues : ℕ → Bool
+continues b = nat_le 128 b && nat_lt b 192

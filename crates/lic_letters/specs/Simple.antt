@@ -66,8 +66,8 @@ TakeSpaces rules source = AllByRecursion (λ line. TakesSpaces (cut_of rules who
 abbrev pub IsNoFront : List ℕ → List ℕ → Type 0
 IsNoFront front bytes = (rest : List ℕ) → bytes ≡ front ++ rest → ⊥
 
--- Simple characters at the start of these bytes, which take so many, were put after what was there: and with whatever simple characters
--- come next they are simple.
+-- Simple characters at the start of these bytes, which take n of them, were put after what was there: and with whatever simple
+-- characters come next they are simple.
 pub record ArePut (bytes : List ℕ) (n : ℕ) (old new : List ℕ) : Type 0 where
   pub front : List ℕ
   pub scalar : scalars front ≡ true
@@ -76,7 +76,7 @@ pub record ArePut (bytes : List ℕ) (n : ℕ) (old new : List ℕ) : Type 0 whe
   pub added : new ≡ old ++ all_in_place front
   pub simple : (others after : List ℕ) → AreSimple others → drop n bytes ≡ encode_utf8_all others ++ after → AreSimple (front ++ others)
 
--- so many bytes at the start of these are simple characters that stay as they are
+-- the first n of these bytes are simple characters that stay as they are
 pub record AreOwn (bytes : List ℕ) (n : ℕ) : Type 0 where
   pub within : n ≤ length bytes
   pub put : (old : List ℕ) → ArePut bytes n old (old ++ take n bytes)

@@ -14,7 +14,7 @@ use lic_kind::{Kind, is_dash, is_quote, kind_of, spell, word_letter};
 use std::alloc::{AllocError, Global};
 use std::simd::prelude::*;
 
-/// So many bytes of ASCII are looked at together.
+/// The bytes of ASCII that are looked at together.
 const AT_ONCE: usize = 16;
 
 /// Whether the character is of words, and its own letter.
@@ -96,7 +96,7 @@ fn own_front(bytes: &[u8], enough: usize) -> usize
     at
 }
 
-/// Adds a byte so many times.
+/// Adds a byte a number of times.
 fn push_times(spelled: &mut Vec<u8>, byte: u8, times: usize) -> Result<(), AllocError>
     ensures { OnOk result (spelled.new.items ≡ spelled.old.items ++ replicate times byte) }
 {
@@ -137,7 +137,7 @@ fn is_small(letter: char) -> bool
     letter.is_ascii() && letter.to_ascii_lowercase() == letter
 }
 
-/// Adds the letters of a word character beyond ASCII of so many bytes, if it has two bytes, and two letters of ASCII.
+/// Adds the letters of a word character beyond ASCII of `width` bytes, if it has two bytes, and two letters of ASCII.
 #[tactic(auto, using(crate::proofs::WideBytes::pair_added, crate::proofs::WideBytes::pair_simple))]
 fn push_pair(
     alloc: Global,
@@ -163,7 +163,7 @@ fn push_pair(
     Ok(true)
 }
 
-/// Adds the letters of a word character beyond ASCII of so many bytes, if it has one of as many bytes, or two of one byte.
+/// Adds the letters of a word character beyond ASCII of `width` bytes, if it has one of as many bytes, or two of one byte.
 #[inline(always)]
 #[tactic(auto, using(crate::proofs::WideBytes::letter_added, crate::proofs::WideBytes::letter_simple))]
 fn push_letter(
@@ -190,7 +190,7 @@ fn push_letter(
     Ok(true)
 }
 
-/// Adds what is put in the place of a character beyond ASCII of so many bytes, if it is simple. These bytes come after it; a quote or
+/// Adds what is put in the place of a character beyond ASCII of `width` bytes, if it is simple. These bytes come after it; a quote or
 /// a dash that they begin with again is not.
 #[tactic(auto, using(crate::proofs::WideBytes::blank_added, crate::proofs::WideBytes::quote_added, crate::proofs::WideBytes::dash_added, crate::proofs::WideBytes::blank_simple, crate::proofs::WideBytes::quote_simple, crate::proofs::WideBytes::dash_simple))]
 fn push_simple(

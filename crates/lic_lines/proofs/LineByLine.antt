@@ -145,8 +145,8 @@ all_lead line lead item tail some all no_item no_tail =
     ∙ ap (λ l. (Blank ∷ []) ++ [] ++ map cell_of l ++ []) (take_none (0 - tail))
 
 module _ (rules : LineRules) (part : LinePart) where
-  item_room : (xs : List ℕ) (c : ℕ) → is_whitespace c ≡ true → item_after_lead rules part (xs ++ c ∷ []) ≤ length xs
-  item_room xs c white =
+  item_fits : (xs : List ℕ) (c : ℕ) → is_whitespace c ≡ true → item_after_lead rules part (xs ++ c ∷ []) ≤ length xs
+  item_fits xs c white =
       let past = option_to_list part.past in
       ⊎_elim
       (λ on. omega (
@@ -185,11 +185,11 @@ module _ (rules : LineRules) (part : LinePart) where
       (λ less.
       let less_is : lead < length text = less in
       let rest : drop lead text ≡ drop lead before ++ nl.char ∷ [] = ap (drop lead) split ∙ drop-append-le lead before (nl.char ∷ []) (omega arith) in
-      let room : item ≤ length (drop lead before) =
+      let fits : item ≤ length (drop lead before) =
       subst (λ l. item_after_lead rules part l ≤ length (drop lead before)) (sym rest)
-      (item_room (drop lead before) nl.char white) in
+      (item_fits (drop lead before) nl.char white) in
       let left : drop item (drop lead text) ≡ drop item (drop lead before) ++ nl.char ∷ [] =
-      ap (drop item) rest ∙ drop-append-le item (drop lead before) (nl.char ∷ []) room in
+      ap (drop item) rest ∙ drop-append-le item (drop lead before) (nl.char ∷ []) fits in
       let end : 0 < tail = subst (λ n. 0 < n)
       (sym (cond-true part.has_end
       (longest_end (is_sequence (is_tail_piece rules)) (drop item (drop lead text))) 0 has_end))

@@ -6,7 +6,7 @@ use Rattle.lic_lines.specs.Tokens.{Token, text_tokens_after}
 pub use Rattle.lic_lines.specs.declared.text_start.TextStart.{TextStart}
 use Rattle.lic_lines.specs.declared.text_start.TextStart.TheVariants as front
 
--- the token of so many characters of the text, with these letters
+-- the token of the first n characters of the text, with these letters
 abbrev pub text_token : Bool → ℕ → List ℕ → List SourceChar → SourceChar → Token
 text_token after_blank n letters text d = record {
   text = letters;
@@ -15,7 +15,7 @@ text_token after_blank n letters text d = record {
   after_blank = after_blank;
 }
 
--- what is known of the start of a text: a character that is a blank, or a token of so many characters with these letters, or nothing
+-- what is known of the start of a text: a character that is a blank, or a token of n characters with these letters, or nothing
 abbrev pub IsTextStart : TextStart → List ℕ → List SourceChar → Type 0
 IsTextStart front.Blank letters text = (rules : LineRules) (after_blank : Bool)
     → text_tokens_after rules true (drop 1 text) ≡ text_tokens_after rules after_blank text

@@ -135,7 +135,7 @@ fn push_with_joined(out: &mut Vec<Cell>, cells: &[Cell]) -> Result<(), AllocErro
     Ok(())
 }
 
-/// Room for the cells of a stretch of text, kept from one stretch to the next.
+/// Buffers for the cells of a stretch of text, kept from one stretch to the next.
 #[derive(Drop)]
 pub struct Streaks {
     parted: Vec<Cell>,

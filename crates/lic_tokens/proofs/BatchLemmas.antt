@@ -38,7 +38,7 @@ pub short_blank : (b : Bool) → length (blank_if b) ≤ 1
 short_blank true = omega arith
 short_blank false = omega arith
 
--- a blank was written, and so many letters after it or over it
+-- a blank was written, and n letters after it or over it
 module _ (old letters : List ℕ) (place len n : ℕ) (fits : place + (n + 1) ≤ length old) (long : n ≤ length letters) (short : len ≤ n) where
   abbrev blank_put : List ℕ
   blank_put = slice_set old place 0x20

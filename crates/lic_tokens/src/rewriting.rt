@@ -23,7 +23,7 @@ use lic_phrases::{FinalToken, Phrases, Rewriter};
 use lic_trim::SourceChar;
 use std::alloc::{AllocError, Global};
 
-/// Of many tokens that are taken in parts a part has at least so many.
+/// The fewest tokens of a part, of tokens that are taken in parts.
 const PART: usize = 65_536;
 
 /// Buffers for the work on a part of a line, kept from one part to the next. What they hold has no effect.
@@ -50,7 +50,7 @@ pub struct Rewriting<'w> {
     phrases: &'w Phrases,
     rewriter: Rewriter,
     tokens: TokenList,
-    /// Room for the tokens that are settled together.
+    /// Buffers for the tokens that are settled together.
     settled: Vec<FinalToken>,
 }
 
@@ -90,7 +90,7 @@ impl<'w> Rewriting<'w> {
         })
     }
 
-    /// Takes memory for the tokens of so many bytes of the input.
+    /// Takes memory for the tokens of a number of bytes of the input.
     pub fn reserve(&mut self, bytes: usize) -> Result<(), AllocError>
         ensures { self.new ≡ self.old }
     {
@@ -423,7 +423,7 @@ impl<'w> Rewriting<'w> {
     }
 
     /// Takes a text, of which nothing is taken and which a blank precedes, and lists the tokens that are settled then.
-    /// The rooms may hold anything.
+    /// The buffers may hold anything.
     pub fn take_characters(
         &mut self,
         alloc: Global,

@@ -122,7 +122,7 @@ impl TokenList {
         self.after_word = false;
     }
 
-    /// Makes room for so many tokens more, whose texts have so many bytes.
+    /// Takes memory for a number of tokens more, and for the bytes of their texts.
     pub(crate) fn reserve(&mut self, tokens: usize, bytes: usize) -> Result<(), AllocError>
         ensures { self.new ≡ self.old }
     {

@@ -93,8 +93,8 @@ module _ (line : List ℕ) (place : ℕ) where
   stop_at streak stop lt e = stop (omega (arith, length-drop place line)) (sym (get_or-drop place line streak 0) ∙ e ∙ first_at)
 
 -- how a mask of the lengths from 3 to that of a streak is made
-pub room_of_streak : (streak : ℕ) → 3 ≤ streak → streak ≤ 62 → (8 ≤ 1 * 2 ^ (streak + 1) % 2 ^ 64) × (1 * 2 ^ (streak + 1) % 2 ^ 64 ≡ 2 ^ (streak + 1))
-room_of_streak streak long fits =
+pub length_of_streak : (streak : ℕ) → 3 ≤ streak → streak ≤ 62 → (8 ≤ 1 * 2 ^ (streak + 1) % 2 ^ 64) × (1 * 2 ^ (streak + 1) % 2 ^ 64 ≡ 2 ^ (streak + 1))
+length_of_streak streak long fits =
     let low : 2 ^ 3 ≤ 2 ^ (streak + 1) = pow_mono {i = 3} {j = streak + 1} (omega arith) in
     let high : 2 ^ (streak + 1) ≤ 2 ^ 63 = pow_mono {i = streak + 1} {j = 63} (omega arith) in
     let is : 1 * 2 ^ (streak + 1) % 2 ^ 64 ≡ 2 ^ (streak + 1) = omega arith in

@@ -37,10 +37,10 @@ occurs_front [] more = refl
 occurs_front (c ∷ t) more = and_from (c == c) (begins_with_text (t ++ more) t) (eq-eqb c c refl) (occurs_front t more)
 
 -- a text with a character may occur where it does, and where it begins in white space
-may_stand_there : (way t more : List ℕ) → 0 < length t → (is_whitespace (get_or t 0 0) ≡ true) ⊎ (way ≡ t ++ more) → may_begin_with way t ≡ true
-may_stand_there way [] more some how = absurd (omega arith)
-may_stand_there way (c ∷ t) more some (inl white) = or_left (is_whitespace c) (begins_with_text way (c ∷ t)) white
-may_stand_there way (c ∷ t) more some (inr is) =
+may_be_there : (way t more : List ℕ) → 0 < length t → (is_whitespace (get_or t 0 0) ≡ true) ⊎ (way ≡ t ++ more) → may_begin_with way t ≡ true
+may_be_there way [] more some how = absurd (omega arith)
+may_be_there way (c ∷ t) more some (inl white) = or_left (is_whitespace c) (begins_with_text way (c ∷ t)) white
+may_be_there way (c ∷ t) more some (inr is) =
     or_right (is_whitespace c) (begins_with_text way (c ∷ t)) (ap (λ l. begins_with_text l (c ∷ t)) is ∙ occurs_front (c ∷ t) more)
 
 -- what is a text with its first character once or more ends in the text
@@ -123,7 +123,7 @@ module _ (rules : LineRules) (side : Side) (line : List ℕ) (n : ℕ) (inside :
         let t = walked side (slice_index_or ts k []) in
         let begins : get_or x 0 0 ≡ get_or t 0 0 = ap (λ l. get_or l 0 0) is ∙ first_of t more some in
         false≢true (sym none ∙ any_from (λ u. may_begin_with (drop n line) (walked side u)) ts k [] lt
-        (may_stand_there (drop n line) t (more ++ drop (m - j) (drop j line)) some
+        (may_be_there (drop n line) t (more ++ drop (m - j) (drop j line)) some
         (⊎_elim
         (λ before. let start : j + 0 ≡ j = omega arith in
         inl (ap is_whitespace (sym begins ∙ at 0 (omega arith) ∙ ap (slice_index line) start) ∙ white j before))

@@ -4,7 +4,7 @@ use Rattle.lic_kind.specs.Kinds.{kind_of, is_mark_kind}
 use Rattle.lic_kind.specs.LineRules.{LineRules}
 use Rattle.lic_trim.specs.Walks.{Side, AreShort}
 
--- so many of one same mark are here and no more, and they are a separator of more than 16
+-- `count` of one same mark are here and no more, and they are a separator of more than 16
 pub record IsLongStreak (rules : LineRules) (way : List ℕ) (at count : ℕ) : Type 0 where
   pub separators : rules.separators ≡ true
   pub mark : is_mark_kind (kind_of (slice_index way at)) ≡ true

@@ -1,15 +1,15 @@
 //! Letters of two and of three bytes that stay as they are, by lanes.
 ghost use Rattle.std.specs.Prelude.{◌≡◌, ℕ, ◌+◌, ◌<◌, ◌≤◌, false, true, length, map, nat_lt, slice_index};
-ghost use Rattle.lic_letters.specs.OwnLetters.{are_common, begins_three, begins_two, class_in, goes_on};
+ghost use Rattle.lic_letters.specs.OwnLetters.{are_common, begins_three, begins_two, class_in, continues};
 ghost use Rattle.lic_letters.specs.Simple.{AreOwn};
 ghost use Rattle.lic_trim.specs.PieceLengths.{has_bit};
 
 use std::simd::prelude::*;
 
-/// So many places are looked at together.
+/// The places that are looked at together.
 const AT_ONCE: usize = 16;
 
-/// A letter has at most so many bytes.
+/// The most bytes of a letter.
 const LONGEST: usize = 3;
 
 /// Letters of three bytes begin with this byte or a higher one.
@@ -85,10 +85,10 @@ fn ascii_places(bytes: u8x16) -> u64
     bytes.simd_lt(u8x16::splat(0x80)).to_bitmask()
 }
 
-/// At which places a byte is that goes on with a character.
+/// At which places a byte continues a character.
 #[inline(always)]
 fn places_on(bytes: u8x16) -> u64
-    ensures { (i : ℕ) → i < 16 → has_bit result i ≡ goes_on (slice_index bytes i) }
+    ensures { (i : ℕ) → i < 16 → has_bit result i ≡ continues (slice_index bytes i) }
 {
     (bytes - u8x16::splat(0x80))
         .simd_lt(u8x16::splat(0x40))

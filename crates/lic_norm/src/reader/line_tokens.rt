@@ -25,7 +25,7 @@ const WHOLE_LINE: LinePart = LinePart {
     past: None,
 };
 
-/// At most so many characters of a buffer are kept from one line to the next.
+/// The most characters of a buffer that are kept from one line to the next.
 const MAX_KEPT: usize = 65_536;
 
 /// Buffers for the work on lines, kept from one to the next. What they hold has no effect.

@@ -6,10 +6,10 @@ ghost use Rattle.lic_norm.specs.LineEnds.{IsFirstLine};
 
 use memchr::{memchr, memrchr};
 
-/// So many bytes are read together at most, unless a line has more.
+/// The most bytes that are read together, unless a line has more.
 pub const MAX_TOGETHER: usize = 65_536;
 
-/// So many bytes are tested together for bytes beyond ASCII.
+/// The bytes that are tested together for bytes beyond ASCII.
 const BLOCK: usize = 64;
 
 /// Where the first line of these bytes ends: after its U+000A, or at their end.

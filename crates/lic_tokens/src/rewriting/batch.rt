@@ -17,16 +17,16 @@ use crate::word_bytes::is_word_byte;
 use lic_phrases::{Phrases, Rewriter};
 use std::simd::prelude::*;
 
-/// So many letters are copied at once: most texts have fewer.
+/// The letters that are copied at once: most texts have fewer.
 const COPIED: usize = 16;
 
-/// And of a longer text so many.
+/// And those of a longer text.
 const MOST: usize = 32;
 
-/// At most so many tokens are spelled together.
+/// The most tokens that are spelled together.
 const TOKENS: usize = 128;
 
-/// So many bytes they have at most: each a blank and the letters that are copied.
+/// The most bytes that they have: each a blank and the letters that are copied.
 const BYTES: usize = 4224;
 
 /// After more bytes of a spelling no tokens are spelled together, since 32 bits might not say where their texts end.
@@ -81,7 +81,7 @@ fn copy_letters(bytes: &mut [u8], place: usize, letters: &[u8], wide: usize)
     }
 }
 
-/// Writes a text of so many letters, with which these begin, after a blank or not: gives the place after it. The blank and `wide`
+/// Writes a text of `len` letters, with which these begin, after a blank or not: gives the place after it. The blank and `wide`
 /// letters are written in any case, and what is too much is written over: so nothing depends on the length.
 #[inline(always)]
 fn put(

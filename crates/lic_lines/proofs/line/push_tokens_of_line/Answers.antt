@@ -12,8 +12,8 @@ returns c =
     let old = c.args.out.now.items in
     let pushed = c.push_text.new.out.items in
     let from : c.len-from.result ≡ length old = c.len-from.ensures ∙ c.args.out.now.ok.0 in
-    let told = c.in_ok-push_text.ensures in
+    let stated = c.in_ok-push_text.ensures in
     c.join_single_signs.ensures
     ∙ ap (λ n. tokens_in (take n pushed) ++ single_signs (tokens_in (drop n pushed))) from
-    ∙ ap₂ (λ a b. a ++ single_signs b) (take_old old pushed _ told) (drop_old old pushed _ told)
+    ∙ ap₂ (λ a b. a ++ single_signs b) (take_old old pushed _ stated) (drop_old old pushed _ stated)
     ∙ ap (λ l. tokens_in old ++ l) c.in_ok-left.ensures

@@ -7,7 +7,7 @@ abbrev pub invariant-loop-at : goal.invariant-loop-at
 invariant-loop-at l = record {
   past : l.kept ≤ l.at;
   within : l.at ≤ length l.tokens.items;
-  told : tokens_in (take l.kept l.tokens.items) ++ single_signs (tokens_in (drop l.at l.tokens.items))
+  stated : tokens_in (take l.kept l.tokens.items) ++ single_signs (tokens_in (drop l.at l.tokens.items))
       ≡ tokens_in (take l.fn.from l.fn.tokens.items) ++ single_signs (tokens_in (drop l.fn.from l.fn.tokens.items));
 }
 

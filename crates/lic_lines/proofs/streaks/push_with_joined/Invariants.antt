@@ -6,7 +6,7 @@ use Rattle.lic_lines.proofs.streaks.push_with_joined.Given as goal
 abbrev pub invariant-loop-at : goal.invariant-loop-at
 invariant-loop-at l = record {
   within : l.at ≤ length l.cells;
-  told : l.out.items ++ with_joined (drop l.at l.cells) ≡ l.fn.out.items ++ with_joined l.cells;
+  stated : l.out.items ++ with_joined (drop l.at l.cells) ≡ l.fn.out.items ++ with_joined l.cells;
 }
 
 abbrev pub decreases-loop-at : goal.decreases-loop-at

@@ -6,7 +6,7 @@ use Rattle.lic_lines.proofs.streaks.push_without_separators.Given as goal
 abbrev pub invariant-loop-at : goal.invariant-loop-at
 invariant-loop-at l = record {
   within : l.at ≤ length l.cells;
-  told : l.out.items ++ without_separators (drop l.at l.cells) ≡ l.fn.out.items ++ without_separators l.cells;
+  stated : l.out.items ++ without_separators (drop l.at l.cells) ≡ l.fn.out.items ++ without_separators l.cells;
 }
 
 abbrev pub decreases-loop-at : goal.decreases-loop-at

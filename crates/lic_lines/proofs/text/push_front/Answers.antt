@@ -32,8 +32,8 @@ returns-in_ok-blank_after-in-Mark-clause-tokens c =
     let old = tokens_in c.args.out.now.items in
     let n = c.mark_count-length.result in
     let sequence = c.mark_count-length.ensures in
-    let told = c.in_ok-blank_after-in-Mark.ensures in
+    let stated = c.in_ok-blank_after-in-Mark.ensures in
     let gs = groups both_words (streaks_joined rules (map cell_of (take n text))) in
-    ap₂ (λ l b. l ++ tokens_after rules b (drop n text)) told.tokens told.blank
+    ap₂ (λ l b. l ++ tokens_after rules b (drop n text)) stated.tokens stated.blank
     ∙ append_assoc old (tokens_from c.args.after_blank gs) _
     ∙ ap (λ l. old ++ l) (marks_sequence rules c.args.after_blank text n sequence.within sequence.some sequence.all sequence.stop)

@@ -12,10 +12,10 @@ sequence_more : (rules : LineRules) (text : List SourceChar) (n m : ℕ) (before
     ≡ old ++ tokens_after rules before (take (length text - n) (drop n text))
     → old ++ tokens_after rules before (drop n text) ≡ whole
     → new ++ tokens_after rules past (drop (n + m) text) ≡ whole
-sequence_more rules text n m before past old new whole sequence told =
+sequence_more rules text n m before past old new whole sequence stated =
     ap (λ l. new ++ tokens_after rules past l) (sym (drop-drop m n text))
     ∙ subst (λ l. new ++ tokens_after rules past (drop m l) ≡ old ++ tokens_after rules before l) (take_rest text n) sequence
-    ∙ told
+    ∙ stated
 
 pub loop-length-preserved : goal.loop-length-preserved
 loop-length-preserved c =
@@ -24,9 +24,9 @@ loop-length-preserved c =
     let sequence = c.in_ok-sequence.sequence in
     record {
       within = omega (arith, c.in_ok-sequence.ensures.within, ap length (take_rest text n), length-drop n text);
-      told =
+      stated =
           sequence_more (rules_of c.args.rules.now) text n sequence.length c.loop-length.blank_after sequence.blank_after (tokens_in c.loop-length.out.items)
-          (tokens_in c.push_front.new.out.items) _ c.in_ok-sequence.ensures.tokens c.loop-length.invariant.told;
+          (tokens_in c.push_front.new.out.items) _ c.in_ok-sequence.ensures.tokens c.loop-length.invariant.stated;
     }
 
 pub returns-after-loop-length-clause-apart : goal.returns-after-loop-length-clause-apart

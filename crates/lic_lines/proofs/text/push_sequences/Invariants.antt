@@ -7,7 +7,7 @@ use Rattle.lic_lines.proofs.text.push_sequences.Given as goal
 abbrev pub invariant-loop-length : goal.invariant-loop-length
 invariant-loop-length l = record {
   within : l.length ≤ length l.text;
-  told : tokens_in l.out.items ++ tokens_after (rules_of l.rules) l.blank_after (drop l.length l.text)
+  stated : tokens_in l.out.items ++ tokens_after (rules_of l.rules) l.blank_after (drop l.length l.text)
       ≡ tokens_in l.fn.out.items ++ tokens_after (rules_of l.rules) l.after_blank l.text;
 }
 

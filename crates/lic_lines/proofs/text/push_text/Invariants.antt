@@ -7,7 +7,7 @@ use Rattle.lic_lines.proofs.text.push_text.Given as goal
 abbrev pub invariant-loop-at : goal.invariant-loop-at
 invariant-loop-at l = record {
   within : l.at ≤ length l.text;
-  told : tokens_in l.out.items ++ tokens_after (rules_of l.rules) l.after_blank (drop l.at l.text)
+  stated : tokens_in l.out.items ++ tokens_after (rules_of l.rules) l.after_blank (drop l.at l.text)
       ≡ tokens_in l.fn.out.items ++ stretch_tokens (rules_of l.rules) l.text;
 }
 

@@ -12,7 +12,7 @@ pub returns : goal.returns
 returns c =
     let text = c.args.text.now in
     let letter = c.mark_letter.result in
-    let told = c.may_be_sign.ensures in
+    let stated = c.may_be_sign.ensures in
     let off = c.if-may_be_sign.false in
     let letters = string_bytes c.push.new.self in
     let spelled : letters ≡ encode_utf8_all (spell (get_or text 0 none).char) =
@@ -24,6 +24,6 @@ returns c =
           front_mark rules after_blank text letters d c.requires.some (c.requires.mark d)
           (c.is_joined.ensures.alone c.if-is_joined.false)
           (spelled ∙ ap (λ (s : SourceChar). encode_utf8_all (spell s.char)) (get_or_default text 0 none d c.requires.some))
-          (ap (bytes_eq (codes "(")) (sym c.as_str.ensures.value) ∙ told.parenthesis off)
-          (ap (bytes_eq (encode_utf8_all (0xA9 ∷ []))) (sym c.as_str.ensures.value) ∙ told.sign off),
+          (ap (bytes_eq (codes "(")) (sym c.as_str.ensures.value) ∙ stated.parenthesis off)
+          (ap (bytes_eq (encode_utf8_all (0xA9 ∷ []))) (sym c.as_str.ensures.value) ∙ stated.sign off),
     )

@@ -13,12 +13,12 @@ returns c =
     let sequence = c.in_ok-length.ensures in
     let letters = string_bytes c.spell_word.new.letters in
     let some = some_front kind.Word text n c.requires.some (c.requires.word none) sequence.stop in
-    let told = c.may_be_sign.ensures in
+    let stated = c.may_be_sign.ensures in
     let off = c.if-may_be_sign.false in (
       some,
       sequence.within,
       λ rules after_blank d.
           front_word rules after_blank text n letters d some sequence.within sequence.words sequence.stop sequence.letters
-          (ap (bytes_eq (codes "(")) (sym c.as_str.ensures.value) ∙ told.parenthesis off)
-          (ap (bytes_eq (encode_utf8_all (0xA9 ∷ []))) (sym c.as_str.ensures.value) ∙ told.sign off),
+          (ap (bytes_eq (codes "(")) (sym c.as_str.ensures.value) ∙ stated.parenthesis off)
+          (ap (bytes_eq (encode_utf8_all (0xA9 ∷ []))) (sym c.as_str.ensures.value) ∙ stated.sign off),
     )

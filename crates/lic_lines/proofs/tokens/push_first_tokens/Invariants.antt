@@ -7,7 +7,7 @@ use Rattle.lic_lines.proofs.tokens.push_first_tokens.Given as goal
 abbrev pub invariant-loop-at : goal.invariant-loop-at
 invariant-loop-at l = record {
   within : l.at ≤ length l.cells;
-  told : tokens_in l.out.items ++ tokens_from l.after_blank (groups both_words (drop l.at l.cells))
+  stated : tokens_in l.out.items ++ tokens_from l.after_blank (groups both_words (drop l.at l.cells))
       ≡ tokens_in l.fn.out.items ++ tokens_from l.fn.after_blank (groups both_words l.cells);
   blank : blank_after l.after_blank (groups both_words (drop l.at l.cells)) ≡ blank_after l.fn.after_blank (groups both_words l.cells);
 }

@@ -15,9 +15,9 @@ loop-count-preserved c =
     let text = c.args.text.now in
     let n : ℕ = c.loop-count.count in
     let inside = c.loop-count-test.true in
-    let told = c.in_ok-push_if_word.ensures in
+    let stated = c.in_ok-push_if_word.ensures in
     let yes = c.if-not-branch.false in
-    let word : kind_of (get_or text n none).char ≡ kind.Word = is_word_kind-true _ (sym told.word ∙ yes) in
+    let word : kind_of (get_or text n none).char ≡ kind.Word = is_word_kind-true _ (sym stated.word ∙ yes) in
     record {
       within = omega arith;
       words = λ i d lt. ⊎_elim
@@ -27,7 +27,7 @@ loop-count-preserved c =
           ∙ ap (λ s. kind_of s.char) (get_or_default text n d none inside) ∙ word)
           (cases_lt i n);
       letters =
-          told.letters yes
+          stated.letters yes
           ∙ ap (λ l. l ++ encode_utf8_all (spell (get_or text n none).char)) known.letters
           ∙ sym (word_letters_more text n none inside);
     }

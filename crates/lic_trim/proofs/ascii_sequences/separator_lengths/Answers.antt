@@ -3,7 +3,7 @@ use Rattle.lic_kind.specs.Kinds.{kind_of, is_mark_kind}
 use Rattle.lic_kind.specs.LineRules.{rules_of}
 use Rattle.lic_trim.specs.PieceLengths.{has_bit}
 use Rattle.lic_trim.specs.Walks.{walked}
-use Rattle.lic_trim.proofs.SeparatorLengths.{bits_of_word, bits_of_few, bits_of_streak, first_at, same_at, stop_at, room_of_streak}
+use Rattle.lic_trim.proofs.SeparatorLengths.{bits_of_word, bits_of_few, bits_of_streak, first_at, same_at, stop_at, length_of_streak}
 use Rattle.lic_trim.proofs.Walking.{length-walked}
 use Rattle.lic_trim.proofs.ascii_sequences.separator_lengths.Goals as goal
 
@@ -37,7 +37,7 @@ returns-then-streak-lt-SHORTEST_SEPARATOR c =
     (stop_at line place streak (λ lt. c.streak_length-streak.ensures.stop (omega (arith, many)))) (rules_of c.args.rules.now).separators (omega arith)
 
 pub overflow_sub-result : goal.overflow_sub-result
-overflow_sub-result c = (room_of_streak c.streak_length-streak.result (omega arith) (omega arith)).0
+overflow_sub-result c = (length_of_streak c.streak_length-streak.result (omega arith) (omega arith)).0
 
 pub returns : goal.returns
 returns c = λ n.
@@ -48,7 +48,7 @@ returns c = λ n.
     let many = length-walked c.args.side c.args.line.now in
     let mark : is_mark_kind (kind_of (get_or way 0 0)) ≡ true =
     ap (λ d. is_mark_kind (kind_of d)) (first_at line place ∙ sym c.byte_at-2.ensures) ∙ sym c.is_mark.ensures ∙ c.if-not-is_mark.false in
-    ap (λ mask. has_bit (mask - 8) n) (room_of_streak streak (omega arith) (omega arith)).1
+    ap (λ mask. has_bit (mask - 8) n) (length_of_streak streak (omega arith) (omega arith)).1
     ∙ bits_of_streak way streak (omega (arith, many, length-drop place line)) (same_at line place streak c.streak_length-streak.ensures.same)
     (stop_at line place streak (λ lt. c.streak_length-streak.ensures.stop (omega (arith, many)))) (rules_of c.args.rules.now).separators
     (sym c.separators.ensures ∙ c.if-not-separators.false) mark n

@@ -3,7 +3,7 @@ use Rattle.std.proofs.lemmas.List.{length-map}
 use Rattle.std.proofs.lemmas.Simd.{map-map, zip2_splat}
 use lib.Lanes.{zip2}
 use Rattle.lic_letters.proofs.Lanes.{all_ones, lane_fits}
-use Rattle.lic_letters.proofs.OwnLanes.{bit_compared, is_on, is_on-goes_on}
+use Rattle.lic_letters.proofs.OwnLanes.{bit_compared, is_on, is_on-continues}
 use Rattle.lic_letters.proofs.wide.own.places_on.Goals as goal
 
 abbrev moved : ℕ → ℕ → ℕ
@@ -20,4 +20,4 @@ returns c = λ i small.
     ap (λ l. zip2 less l (replicate 16 64)) first ∙ zip2_splat less (map (λ x. moved x 128) v) 16 64 (length-map v (λ x. moved x 128) ∙ c.fits-bytes.0)
     ∙ map-map (λ y. less y 64) (λ x. moved x 128) v in
     bit_compared is_on v _ i (omega (arith, c.fits-bytes.0)) tests (omega (arith, small, c.fits-bytes.0))
-    ∙ is_on-goes_on (get_or v i 0) (lane_fits v i c.fits-bytes.1)
+    ∙ is_on-continues (get_or v i 0) (lane_fits v i c.fits-bytes.1)
