@@ -48,8 +48,8 @@ fn feed_all<R: Source>(
     let chunk = chunk.as_mut_slice();
     let mut count = 0;
     while count < MAX_READ {
-        let room = (MAX_READ - count).min(CHUNK);
-        let n = match input.pull(&mut chunk[..room]) {
+        let wanted = (MAX_READ - count).min(CHUNK);
+        let n = match input.pull(&mut chunk[..wanted]) {
             Err(_) => return Err(RunFault::Read),
             Ok(n) => n,
         };

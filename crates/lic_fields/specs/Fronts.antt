@@ -25,7 +25,7 @@ pub record IsThousand (least : ℕ) (digits : List (List ℕ)) : Type 0 where
   pub few : length digits ≤ 1000
   pub ends : (k : ℕ) → k < length digits → EndsField (first_digits least) (get_or digits k []) (least + k)
 
--- the bytes that are the same in all, and after them two numbers as fields, each first digits and what ends it; and then so many
+-- the bytes that are the same in all, and after them two numbers as fields, each first digits and what ends it; and then enough
 -- bytes that a block can be copied
 pub record IsKept (bytes : List ℕ) (same first_end len : ℕ) (first second : List ℕ) : Type 0 where
   pub first_four : List ℕ

@@ -89,7 +89,7 @@ pub all_taken : (tokens whole : List Token) (next : ℕ) (before after : Rewriti
     → ((taken : List Token) → HasTaken before taken → (front : List Token) × HasTaken after (taken ++ front)
     × (front ++ single_signs (drop next tokens) ≡ single_signs whole)) → length tokens ≤ next
     → (taken : List Token) → HasTaken before taken → HasTaken after (taken ++ single_signs whole)
-all_taken tokens whole next before after told all = λ taken has.
-    let one = told taken has in
+all_taken tokens whole next before after stated all = λ taken has.
+    let one = stated taken has in
     subst (λ ts. HasTaken after (taken ++ ts))
     (sym (append-nil one.0) ∙ ap (λ l. one.0 ++ l) (sym (ap single_signs (drop_all next tokens all))) ∙ one.2) one.1

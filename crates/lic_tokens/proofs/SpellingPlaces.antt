@@ -150,7 +150,7 @@ after_blank false before (c ∷ text) more is =
     ∙ sym (ap length (append-nil before))
 
 -- a text is between a prefix of the spelling and more
-pub record Stands (before : List (List ℕ)) (text : List ℕ) (after : List (List ℕ)) : Type 0 where
+pub record IsBetween (before : List (List ℕ)) (text : List ℕ) (after : List (List ℕ)) : Type 0 where
   pub front : List ℕ
   pub more : List ℕ
   pub utf8 : IsUtf8 more
@@ -160,7 +160,7 @@ pub record Stands (before : List (List ℕ)) (text : List ℕ) (after : List (Li
   pub order : length (spelled before) ≤ length front
 
 pub occurs : (before : List (List ℕ)) (text : List ℕ) (after : List (List ℕ)) → AreTexts before → IsUtf8 text → IsTokenText text → AreTexts after
-    → Stands before text after
+    → IsBetween before text after
 occurs before text after known utf8 is are =
     let later = spelled-more (before ++ text ∷ []) after (AreTexts-snoc before text known utf8 is) are in
     let parted = is_parted (spelled before) text in
@@ -206,7 +206,7 @@ length-texts_of [] = refl
 length-texts_of (t ∷ tokens) = ap suc (length-texts_of tokens)
 
 -- the text of a token is between a prefix of the spelling and more
-pub record StandsAt (tokens : List TokenValue) (i : ℕ) (whole text : List ℕ) : Type 0 where
+pub record IsTextAt (tokens : List TokenValue) (i : ℕ) (whole text : List ℕ) : Type 0 where
   pub front : List ℕ
   pub more : List ℕ
   pub utf8 : IsUtf8 more
@@ -217,7 +217,7 @@ pub record StandsAt (tokens : List TokenValue) (i : ℕ) (whole text : List ℕ)
   pub order : length (spelled (take i (texts_of tokens))) ≤ length front
 
 pub occurs_at : (tokens : List TokenValue) (i : ℕ) (whole : List ℕ) → i < length tokens → AreTexts (texts_of tokens)
-    → whole ≡ spelled (texts_of tokens) → StandsAt tokens i whole (get_or (texts_of tokens) i [])
+    → whole ≡ spelled (texts_of tokens) → IsTextAt tokens i whole (get_or (texts_of tokens) i [])
 unfolding place_end place_start
 occurs_at tokens i whole inside known is =
     let texts = texts_of tokens in

@@ -70,7 +70,7 @@ impl Entries {
         self.sources.clear();
     }
 
-    /// Takes memory for so many more.
+    /// Takes memory for `count` entries more.
     pub(crate) fn reserve(&mut self, count: usize) -> Result<(), AllocError>
         ensures { self.new ≡ self.old }
     {

@@ -35,7 +35,7 @@ returns-in-Err-feed-clause-refused g c = λ fault is not_memory.
     let fed = c.loop-count.feeder.bytes in
     let n = c.in-Ok.n in
     let buf = c.pull.new.buf in
-    let rest = drop c.min-room.result c.loop-count.chunk in
+    let rest = drop c.min-wanted.result c.loop-count.chunk in
     let piece : take n (buf ++ rest) ≡ take n buf = take-append-le n buf rest (omega (arith, c.in-Ok.ensures.bound)) in
     piece_refused _ _ _ fed (take n buf) fault known.read c.in-Ok.ensures.bytes.0
     (ap (λ l. refusal_of (fed ++ l)) (sym piece) ∙ c.in-Err-feed.ensures.refused known.unrefused (λ e. not_memory (sym same ∙ e)) ∙ ap Some same)
@@ -46,7 +46,7 @@ returns-in-Err-feed-clause-memory g c = λ is.
     let fed = c.loop-count.feeder.bytes in
     let n = c.in-Ok.n in
     let buf = c.pull.new.buf in
-    let rest = drop c.min-room.result c.loop-count.chunk in
+    let rest = drop c.min-wanted.result c.loop-count.chunk in
     let piece : take n (buf ++ rest) ≡ take n buf = take-append-le n buf rest (omega (arith, c.in-Ok.ensures.bound)) in
     let same : c.in-Err-feed.fault ≡ Memory = cc in
     piece_unrefused _ _ _ fed (take n buf) known.read c.in-Ok.ensures.bytes.0

@@ -7,8 +7,8 @@ use Rattle.lic_norm.proofs.feeder.read_pieces.Goals as goal
 
 pub returns-in_err-feed-clause-refused : goal.returns-in_err-feed-clause-refused
 returns-in_err-feed-clause-refused c =
-    let told : c.in_err-feed.field-0.0 ≢ Memory → refusal_of (flat_map (λ p. p.now) c.args.pieces.now) ≡ Some c.in_err-feed.field-0.0 =
+    let stated : c.in_err-feed.field-0.0 ≢ Memory → refusal_of (flat_map (λ p. p.now) c.args.pieces.now) ≡ Some c.in_err-feed.field-0.0 =
     λ not_memory. refused_piece (λ p. p.now) c.args.pieces.now c.loop-piece.piece-index _ c.loop-piece.feeder.bytes c.in_err-feed.field-0.0 c.loop-piece-test.true
     c.loop-piece.invariant.fed (c.in_err-feed.ensures.refused c.loop-piece.invariant.unrefused not_memory) in
     let same = c.from_residual.ensures in
-    search (rules, same, told)
+    search (rules, same, stated)

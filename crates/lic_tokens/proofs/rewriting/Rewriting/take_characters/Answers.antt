@@ -41,7 +41,7 @@ loop-place-preserved-in-Blank c =
     let known = c.loop-place.invariant in
     let here = take (length text - place) (drop place text) in
     let rest : here ≡ drop place text = take_rest text place in
-    let told : IsTextStart front.Blank (string_bytes c.start_of_text.new.letters) here =
+    let stated : IsTextStart front.Blank (string_bytes c.start_of_text.new.letters) here =
     subst (λ f. IsTextStart f (string_bytes c.start_of_text.new.letters) here) c.in-Blank.is c.in_ok-start_of_text.ensures in
     record {
       within = omega arith;
@@ -51,7 +51,7 @@ loop-place-preserved-in-Blank c =
             before.1,
             ap (λ l. before.0 ++ l)
                 (ap (text_tokens_after rules true) (sym (ap (drop 1) rest ∙ drop-drop 1 place text))
-                ∙ told rules c.loop-place.after_blank
+                ∙ stated rules c.loop-place.after_blank
                 ∙ ap (text_tokens_after rules c.loop-place.after_blank) rest) ∙ before.2,
           );
       phrases = known.phrases;
@@ -68,11 +68,11 @@ take_text-requires-clause-text c =
     let place = c.loop-place.place in
     let n = c.in-Token.length in
     let here = take (length text - place) (drop place text) in
-    let told : IsTextStart (front.Token n) (string_bytes c.start_of_text.new.letters) here =
+    let stated : IsTextStart (front.Token n) (string_bytes c.start_of_text.new.letters) here =
     subst (λ f. IsTextStart f (string_bytes c.start_of_text.new.letters) here) c.in-Token.is c.in_ok-start_of_text.ensures in
     subst IsTokenText (sym c.as_str.ensures.value)
     (All-head (λ t. IsTokenText t.text) _ _
-    (subst HaveTexts (sym (told.2 rules c.loop-place.after_blank none)) (after-texts rules c.loop-place.after_blank here)))
+    (subst HaveTexts (sym (stated.2 rules c.loop-place.after_blank none)) (after-texts rules c.loop-place.after_blank here)))
 
 pub take_front-requires-clause-before : goal.take_front-requires-clause-before
 take_front-requires-clause-before c = record { taken = _; has = (c.loop-place.invariant.taken c.requires.before.taken c.requires.before.has).1 }
@@ -86,7 +86,7 @@ loop-place-preserved-in-Token c =
     let known = c.loop-place.invariant in
     let here = take (length text - place) (drop place text) in
     let rest : here ≡ drop place text = take_rest text place in
-    let told : IsTextStart (front.Token n) (string_bytes c.start_of_text.new.letters) here =
+    let stated : IsTextStart (front.Token n) (string_bytes c.start_of_text.new.letters) here =
     subst (λ f. IsTextStart f (string_bytes c.start_of_text.new.letters) here) c.in-Token.is c.in_ok-start_of_text.ensures in
     let token_with = λ (letters : List ℕ). let t : Token = record {
       text = letters;
@@ -97,7 +97,7 @@ loop-place-preserved-in-Token c =
     let token = token_with c.as_str.result.now in
     let done = c.in_ok-take_text-in-Token.ensures in
     record {
-      within = omega (arith, told.1, ap length rest, length-drop place text);
+      within = omega (arith, stated.1, ap length rest, length-drop place text);
       taken = λ taken has.
           let before = known.taken taken has in (
             before.0 ++ token ∷ [],
@@ -106,7 +106,7 @@ loop-place-preserved-in-Token c =
                 ∙ ap (λ l. before.0 ++ l)
                 (ap (λ l. token ∷ text_tokens_after rules false l) (sym (ap (drop n) rest ∙ drop-drop n place text))
                 ∙ ap (λ l. token_with l ∷ text_tokens_after rules false (drop n here)) c.as_str.ensures.value
-                ∙ told.2 rules c.loop-place.after_blank none
+                ∙ stated.2 rules c.loop-place.after_blank none
                 ∙ ap (text_tokens_after rules c.loop-place.after_blank) rest)
                 ∙ before.2,
           );

@@ -4,7 +4,7 @@ use Rattle.std.proofs.lemmas.Simd.{take_more_put_chunk}
 use lib.Lanes.{put_chunk}
 use Rattle.lic_tokens.proofs.rewriting.batch.copy_letters.Goals as goal
 
--- so many letters that are stored at a place
+-- n letters that are stored at a place
 stored : (bytes letters : List ℕ) (place wide n : ℕ) → wide ≡ n → place + wide ≤ length bytes → wide ≤ length letters
     → take (place + wide) (put_chunk place bytes (take n letters)) ≡ take place bytes ++ take wide letters
 stored bytes letters place wide n is fits long =
