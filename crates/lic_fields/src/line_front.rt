@@ -16,7 +16,7 @@ const COPIED: usize = 16;
 const AFTER: usize = 17;
 
 /// How many bytes are copied at once, if they are enough.
-const SHORT: usize = 64;
+const SHORT: usize = 80;
 
 /// How many bytes are copied at once otherwise: most lines have fewer.
 const LONG: usize = 128;

@@ -4,15 +4,15 @@ use Rattle.lic_fields.proofs.LineParts.{block_after, block_front}
 use Rattle.lic_fields.proofs.line_front.add_block.Goals as goal
 
 pub slice_bounds-extend_from_slice-end : goal.slice_bounds-extend_from_slice-end
-slice_bounds-extend_from_slice-end c = sym (length-take-le 64 c.args.bytes.now (omega (arith, c.requires.0)))
+slice_bounds-extend_from_slice-end c = sym (length-take-le 80 c.args.bytes.now (omega (arith, c.requires.0)))
 
 pub returns-then-len-le-SHORT-clause-front : goal.returns-then-len-le-SHORT-clause-front
 returns-then-len-le-SHORT-clause-front c =
-    block_front c.args.lines.now.items c.args.bytes.now _ c.args.len 64 (omega (arith, c.if-len-le-SHORT.true)) c.in_ok-extend_from_slice.ensures.items
+    block_front c.args.lines.now.items c.args.bytes.now _ c.args.len 80 (omega (arith, c.if-len-le-SHORT.true)) c.in_ok-extend_from_slice.ensures.items
 
 pub returns-then-len-le-SHORT-clause-after : goal.returns-then-len-le-SHORT-clause-after
 returns-then-len-le-SHORT-clause-after c =
-    block_after c.args.lines.now.items c.args.bytes.now _ c.args.len 64 c.if-len-le-SHORT.true (omega (arith, c.requires.0)) c.in_ok-extend_from_slice.ensures.items
+    block_after c.args.lines.now.items c.args.bytes.now _ c.args.len 80 c.if-len-le-SHORT.true (omega (arith, c.requires.0)) c.in_ok-extend_from_slice.ensures.items
 
 pub returns-then-len-le-LONG-clause-front : goal.returns-then-len-le-LONG-clause-front
 returns-then-len-le-LONG-clause-front c =
