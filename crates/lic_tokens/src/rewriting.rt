@@ -11,6 +11,7 @@ ghost use Rattle.lic_tokens.specs.Taking.{HasTaken, HasTakenSome, HasTakenUpTo, 
 ghost use Rattle.lic_tokens.specs.Tokens.{HaveTexts, reported};
 
 pub(crate) mod batch;
+mod long;
 
 use crate::rewriting::batch::{Batch, Spelled, is_word_at, plain_text, spell};
 use crate::stretch::Stretch;

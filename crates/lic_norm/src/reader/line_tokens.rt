@@ -2,6 +2,7 @@
 
 ghost use Rattle.std.specs.Prelude.{◌≡◌, ◌+◌, ◌++◌, ◌<◌, ◌≤◌, ◌^◌, List, length, take, IfOk, IfSome, OnOk, IsAscii, IsUtf8};
 ghost use Rattle.lic_kind.specs.LineRules.{rules_of};
+ghost use Rattle.lic_trim.specs.Lines.{whole_line};
 ghost use Rattle.lic_trim.specs.Sources.{placed};
 ghost use Rattle.lic_lines.specs.Cells.{cells_of};
 ghost use Rattle.lic_lines.specs.Streaks.{streaks_joined};
@@ -14,7 +15,7 @@ use crate::reader::characters::read_characters;
 use lic_columns::Lines;
 use lic_lines::{Rules, left_of_line};
 use lic_tokens::{Batch, PartBuffers, Rewriting, Stretch};
-use lic_trim::{LinePart, SourceChar};
+use lic_trim::{LinePart, SourceChar, cut_line};
 use std::alloc::{AllocError, Global};
 use std::fmt;
 
@@ -81,13 +82,26 @@ fn batch_of(batches: &mut Vec<Batch>) -> Result<&mut Batch, AllocError> {
     Ok(&mut batches[0])
 }
 
-/// Lets go of the characters of a long line.
-fn give_back(alloc: Global, characters: &mut Vec<SourceChar>)
-    ensures { length characters.new.items ≤ length characters.old.items }
+/// Takes the first tokens, by these line rules, of a long line of these characters, and lets go of them.
+#[inline(never)]
+fn take_long_line(
+    alloc: Global,
+    rules: &Rules,
+    characters: &mut Vec<SourceChar>,
+    letters: &mut String,
+    part: &mut PartBuffers,
+    rewriting: &mut Rewriting<'_>,
+) -> Result<(), AllocError>
+    requires { HasTakenSome rewriting.old }
+    ensures taken { OnOk result ((taken : List Token) → HasTaken rewriting.old taken
+        → HasTaken rewriting.new (taken ++ line_tokens (rules_of rules.now) whole_line characters.old.items)) }
+    ensures phrases { phrases_of rewriting.new ≡ phrases_of rewriting.old }
 {
-    if characters.len() > MAX_KEPT {
-        *characters = Vec::new(alloc);
-    }
+    let cut = cut_line(alloc, rules, WHOLE_LINE, characters)?;
+    characters.truncate(characters.len() - cut.tail);
+    rewriting.take_long(alloc, rules, characters, cut.lead + cut.item, letters, part)?;
+    *characters = Vec::new(alloc);
+    Ok(())
 }
 
 /// Takes the first tokens, by these line rules, of a line of any bytes that begins at this byte of the input. What the buffers
@@ -113,9 +127,12 @@ pub(crate) fn take_any_line(
         ..
     } = buffers;
     read_characters(characters, at, line)?;
+    if characters.len() > MAX_KEPT {
+        take_long_line(alloc, rules, characters, letters, part, rewriting)?;
+        return Ok(());
+    }
     let left = left_of_line(alloc, rules, WHOLE_LINE, characters)?;
     rewriting.take_characters(alloc, rules, left, letters, part)?;
-    give_back(alloc, characters);
     Ok(())
 }
 
