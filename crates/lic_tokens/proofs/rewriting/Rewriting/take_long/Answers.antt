@@ -42,7 +42,7 @@ loop-place-preserved-in-Blank c =
     let known = c.loop-place.invariant in
     let here = take (length text - place) (drop place text) in
     let rest : here ≡ drop place text = take_rest text place in
-    let told : IsTextStart front.Blank (string_bytes c.start_of_text.new.letters) here =
+    let stated : IsTextStart front.Blank (string_bytes c.start_of_text.new.letters) here =
     subst (λ f. IsTextStart f (string_bytes c.start_of_text.new.letters) here) c.in-Blank.is c.in_ok-start_of_text.ensures in
     record {
       within = omega arith;
@@ -53,7 +53,7 @@ loop-place-preserved-in-Blank c =
             ap (λ l. before.0 ++ l)
                 (ap (λ l. text_tokens_after rules true (drop (place + 1) l)) (sym same)
                 ∙ ap (text_tokens_after rules true) (sym (ap (drop 1) rest ∙ drop-drop 1 place text))
-                ∙ told rules c.loop-place.after_blank
+                ∙ stated rules c.loop-place.after_blank
                 ∙ ap (text_tokens_after rules c.loop-place.after_blank) (rest ∙ ap (drop place) same)) ∙ before.2,
           );
       phrases = known.phrases;
@@ -71,11 +71,11 @@ take_text-requires-clause-text c =
     let place = c.loop-place.place in
     let n = c.in-Token.length in
     let here = take (length text - place) (drop place text) in
-    let told : IsTextStart (front.Token n) (string_bytes c.start_of_text.new.letters) here =
+    let stated : IsTextStart (front.Token n) (string_bytes c.start_of_text.new.letters) here =
     subst (λ f. IsTextStart f (string_bytes c.start_of_text.new.letters) here) c.in-Token.is c.in_ok-start_of_text.ensures in
     subst IsTokenText (sym c.as_str.ensures.value)
     (All-head (λ t. IsTokenText t.text) _ _
-    (subst HaveTexts (sym (told.2 rules c.loop-place.after_blank none)) (after-texts rules c.loop-place.after_blank here)))
+    (subst HaveTexts (sym (stated.2 rules c.loop-place.after_blank none)) (after-texts rules c.loop-place.after_blank here)))
 
 pub take_front-requires-clause-before : goal.take_front-requires-clause-before
 take_front-requires-clause-before c = record { taken = _; has = (c.loop-place.invariant.taken c.requires.before.taken c.requires.before.has).1 }
@@ -90,7 +90,7 @@ loop-place-preserved-in-Token c =
     let known = c.loop-place.invariant in
     let here = take (length text - place) (drop place text) in
     let rest : here ≡ drop place text = take_rest text place in
-    let told : IsTextStart (front.Token n) (string_bytes c.start_of_text.new.letters) here =
+    let stated : IsTextStart (front.Token n) (string_bytes c.start_of_text.new.letters) here =
     subst (λ f. IsTextStart f (string_bytes c.start_of_text.new.letters) here) c.in-Token.is c.in_ok-start_of_text.ensures in
     let token_with = λ (letters : List ℕ). let t : Token = record {
       text = letters;
@@ -110,7 +110,7 @@ loop-place-preserved-in-Token c =
                 ∙ ap (λ l. before.0 ++ l)
                 (ap (λ l. token ∷ text_tokens_after rules false l) (c.let_go-place.ensures.left ∙ ap (drop (place + n)) (sym same) ∙ sym (ap (drop n) rest ∙ drop-drop n place text))
                 ∙ ap (λ l. token_with l ∷ text_tokens_after rules false (drop n here)) c.as_str.ensures.value
-                ∙ told.2 rules c.loop-place.after_blank none
+                ∙ stated.2 rules c.loop-place.after_blank none
                 ∙ ap (text_tokens_after rules c.loop-place.after_blank) (rest ∙ ap (drop place) same))
                 ∙ before.2,
           );
@@ -151,12 +151,12 @@ loop-place-smaller-in-Token c =
     let place = c.loop-place.place in
     let n = c.in-Token.length in
     let here = take (length text - place) (drop place text) in
-    let told : IsTextStart (front.Token n) (string_bytes c.start_of_text.new.letters) here =
+    let stated : IsTextStart (front.Token n) (string_bytes c.start_of_text.new.letters) here =
     subst (λ f. IsTextStart f (string_bytes c.start_of_text.new.letters) here) c.in-Token.is c.in_ok-start_of_text.ensures in
     omega (
       arith,
-      told.0,
-      told.1,
+      stated.0,
+      stated.1,
       ap length (take_rest text place),
       length-drop place text,
       ap length c.deref.ensures.value,
