@@ -5,6 +5,7 @@ use Rattle.lic_spans.specs.declared.span.PlaceSpan.{PlaceSpan}
 use Rattle.lic_reverse.specs.declared.ways.reached.Reached.{Reached}
 use Rattle.lic_view.specs.PlaceSets.{ArePlaced, Reaches}
 use Rattle.lic_reverse.specs.Tidily.{IsTidyBack, Taken, spans_of}
+use Rattle.lic_view.specs.Fresh.{AreFresh}
 use Rattle.lic_view.specs.declared.sets.keep.Keep.{Keep}
 
 -- all spans that were reached, by what was taken last
@@ -17,3 +18,11 @@ pub record IsFrontierOf (keep : Keep) (tokens : List TokenValue) (known all new 
   pub placed : (s : Taken) → ArePlaced tokens (front s)
   pub among : (s : Taken) (p last : ℕ) → Reaches tokens (front s) p last → Reaches tokens (new s) p last
   pub parted : (s : Taken) (p last : ℕ) → Reaches tokens (new s) p last → Reaches tokens (front s) p last ⊎ Reaches tokens (known s) p last
+
+-- What the frontier led to is kept, each once; what the frontier did not have itself is added to what was known, and makes the next frontier.
+pub record IsNextFrontier (keep : Keep) (tokens : List TokenValue) (known reached front led next : Taken → List PlaceSpan) : Type 0 where
+  pub kept : Taken → List PlaceSpan
+  pub fresh : Taken → List PlaceSpan
+  pub are_kept : IsTidyBack keep tokens (λ w. w ≡ []) led kept
+  pub are_fresh : (s : Taken) → AreFresh (kept s) (front s) (fresh s)
+  pub added : IsFrontierOf keep tokens known (λ s. known s ++ fresh s) reached next

@@ -211,6 +211,7 @@ fn more_than(min: u32, max: Option<u32>) -> Option<usize>
 
 // `count` words of the body in a row.
 #[cycle(over)]
+#[inline(never)]
 fn over_times(
     alloc: Global,
     view: &View<'_>,
@@ -253,9 +254,7 @@ fn over_up_to(
             return Ok(reached.into_ways()?);
         }
         let led = over(alloc, view, keep, body, front.copy(alloc)?)?;
-        let next = led.kept(alloc, view, keep)?;
-        let more = next.fresh(alloc, keep, &front)?;
-        front = reached.add(alloc, view, keep, more)?;
+        front = reached.go_on(alloc, view, keep, &front, led)?;
     }
     Ok(reached.into_ways()?)
 }

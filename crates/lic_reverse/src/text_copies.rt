@@ -18,6 +18,7 @@ use std::alloc::Global;
 use std::mem;
 
 /// The places from which up to `count` copies of a text lead to those of the spans: each time on from the places that are new.
+#[inline(never)]
 pub fn over_copies(
     alloc: Global,
     view: &View<'_>,

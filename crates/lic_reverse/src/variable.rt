@@ -16,6 +16,7 @@ use lic_view::{Keep, Stop, View};
 use std::alloc::Global;
 
 /// The places from which a tidy word of a pattern leads to those of the spans.
+#[inline(never)]
 pub fn over_value(
     alloc: Global,
     view: &View<'_>,

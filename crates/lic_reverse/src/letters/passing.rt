@@ -26,6 +26,7 @@ use lic_view::{
 use std::alloc::{AllocError, Global};
 
 /// Where a letter that passes leads to these ways.
+#[inline(never)]
 pub(crate) fn over_one(
     alloc: Global,
     view: &View<'_>,

@@ -2,7 +2,7 @@
 
 ghost use Rattle.std.specs.Prelude.{◌≡◌, ◌++◌, [], IfOk, OnOk};
 ghost use Rattle.lic_view.specs.PlaceSets.{ArePlaced};
-ghost use Rattle.lic_reverse.specs.Reached.{IsFrontierOf, reached_of};
+ghost use Rattle.lic_reverse.specs.Reached.{IsFrontierOf, IsNextFrontier, reached_of};
 ghost use Rattle.lic_reverse.specs.Tidily.{AreWays, IsTidyBack, Taken, spans_of};
 
 use crate::ways::Ways;
@@ -70,7 +70,28 @@ impl Reached {
         Ok(())
     }
 
+    /// Adds the ways to which those of a frontier led, and answers the next frontier.
+    #[inline(never)]
+    pub(crate) fn go_on(
+        &mut self,
+        alloc: Global,
+        view: &View<'_>,
+        keep: Keep,
+        front: &Ways,
+        led: Ways,
+    ) -> Result<Ways, Stop>
+        requires reached { (s : Taken) → ArePlaced view.now (reached_of self.old s) }
+        requires led { AreWays view.now led }
+        ensures { IfOk result (λ next. IsNextFrontier keep view.now (reached_of self.old) (reached_of self.new)
+            (spans_of front.now) (spans_of led) (spans_of next)) }
+    {
+        let next = led.kept(alloc, view, keep)?;
+        let more = next.fresh(alloc, keep, front)?;
+        self.add(alloc, view, keep, more)
+    }
+
     /// All of them.
+    #[inline(never)]
     pub(crate) fn into_ways(self) -> Result<Ways, AllocError>
         ensures { IfOk result (λ ways. (s : Taken) → spans_of ways s ≡ reached_of self s) }
     {

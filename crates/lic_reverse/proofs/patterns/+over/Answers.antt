@@ -12,7 +12,6 @@ use Rattle.std.proofs.lemmas.List.{append-nil}
 use Rattle.lic_reverse.proofs.GroupParts.{tidy-part, tidy-part_none}
 use Rattle.lic_reverse.proofs.EmptyWords.{alone-stays}
 use Rattle.lic_reverse.proofs.TidyBack.{tidy-least}
-use Rattle.lic_view.proofs.FreshLemmas.{fresh-placed}
 use Rattle.lic_reverse.proofs.TidyRepeats.{repeat-back}
 use Rattle.lic_reverse.proofs.patterns.+over.Goals as goal
 
@@ -174,17 +173,14 @@ over_up_to-over-requires t c = (
   placed-copied c.args.view.now (spans_of c.loop.front) (spans_of c.in_ok-copy.field-0) c.in_ok-copy.ensures c.loop.invariant.placed,
 )
 
-pub over_up_to-add-requires-clause-next : goal.over_up_to-add-requires-clause-next
-over_up_to-add-requires-clause-next t c = λ s.
-    fresh-placed c.args.view.now (spans_of c.in_ok-next.next s) (spans_of c.loop.front s) (spans_of c.in_ok-more.more s) (c.in_ok-more.ensures s) (c.in_ok-next.ensures.placed s)
-
 pub over_up_to-loop-preserved : goal.over_up_to-loop-preserved
 over_up_to-loop-preserved t c =
     let one_more : c.loop.counter + 1 ≡ suc c.loop.counter = omega arith in
+    let next = c.in_ok-front-2.ensures in
     reached-pruned c.args.keep c.args.view.now (Language (tree_words (tree_of c.args.body.now))) (spans_of c.args.ways) (reached_of c.loop.reached) (spans_of c.loop.front)
-    (spans_of c.in_ok-copy.field-0) (spans_of c.in_ok-led.led) (spans_of c.in_ok-next.next) (spans_of c.in_ok-more.more)
-    (reached_of c.add.new.self) (spans_of c.in_ok-front-2.front) c.loop.counter (c.loop.counter + 1) one_more
-    c.loop.invariant c.in_ok-copy.ensures c.in_ok-led.ensures c.in_ok-next.ensures c.in_ok-more.ensures c.in_ok-front-2.ensures
+    (spans_of c.in_ok-copy.field-0) (spans_of c.in_ok-led.led) next.kept next.fresh
+    (reached_of c.go_on.new.self) (spans_of c.in_ok-front-2.front) c.loop.counter (c.loop.counter + 1) one_more
+    c.loop.invariant c.in_ok-copy.ensures c.in_ok-led.ensures next.are_kept next.are_fresh next.added
 
 pub over_up_to-returns : goal.over_up_to-returns
 over_up_to-returns t c =
