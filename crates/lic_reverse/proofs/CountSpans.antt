@@ -34,8 +34,8 @@ module _ (keep : Keep) (tokens : List TokenValue) (q last : ℕ) (Ends : ℕ →
       counted-reads tokens w p q word.tidied word.least (subst (Reads tokens p w) (at r l ends).0 reads)
 
   pub back-after_blank : IsAfterBlank (spelling_of tokens) q → IsBackFrom keep tokens (Counted 1 None) Ends []
-  back-after_blank behind =
-      back-nothing keep tokens (Counted 1 None) Ends (λ p r l w ends is reads. (counted_from p r l w ends is reads).ends behind)
+  back-after_blank following =
+      back-nothing keep tokens (Counted 1 None) Ends (λ p r l w ends is reads. (counted_from p r l w ends is reads).ends following)
 
   pub back-no_letter : q ≡ 0 → IsBackFrom keep tokens (Counted 1 None) Ends []
   back-no_letter none =

@@ -139,7 +139,7 @@ chain-spelled tokens passes t (suc count) low q texts may chain =
     by_letter more (inl is) = record {
       state = a_blank;
       word = chain.1 ∷ more.word;
-      may_go_on = inr (λ behind. apart behind);
+      may_go_on = inr (λ following. apart following);
       passing = (chain.3, more.passing);
       long = ap suc more.long;
       taken = (more.state, inl (is, refl, letter more.may_go_on), more.taken);
@@ -154,6 +154,6 @@ chain-spelled tokens passes t (suc count) low q texts may chain =
         letter (inr not) = absurd (not (low, at.1, at.0))
 
         apart : IsAfterBlank (spelling_of tokens) low → ⊥
-        apart behind =
-            let no = blanks-apart tokens behind.0 texts behind.2 in
-            true≢false (sym (subst (λ x. IsTrue (is_blank_at (spelling_of tokens) x)) behind.1 at.0) ∙ no)
+        apart following =
+            let no = blanks-apart tokens following.0 texts following.2 in
+            true≢false (sym (subst (λ x. IsTrue (is_blank_at (spelling_of tokens) x)) following.1 at.0) ∙ no)

@@ -203,14 +203,14 @@ module _ (tokens : List TokenValue) (texts : AreTexts tokens) where
   -- where no letter is taken before it, no blank comes before the place
   pub streak-ends : (w : Word) (s t : Taken) (p q : ℕ) → (t ≡ a_letter → ⊥) → 0 < length w → IsTakenBack s w t → Reads tokens p w q →
       IsAfterBlank (spelling_of tokens) q → ⊥
-  streak-ends [] s t p q other some taken reads behind = omega arith
-  streak-ends (c ∷ []) s t p q other some taken reads behind = by_letter taken.1 reads.1
+  streak-ends [] s t p q other some taken reads following = omega arith
+  streak-ends (c ∷ []) s t p q other some taken reads following = by_letter taken.1 reads.1
     where
       by_letter : IsTakenBefore s c taken.0 → Takes tokens p c reads.0 → ⊥
       by_letter (inl at) takes = other (sym taken.2 ∙ at.2)
       by_letter (inr at) (inl is) = at.0 is.0
       by_letter (inr at) (inr is) =
           let occurs : IsLetterBefore (spelling_of tokens) q p c = subst (λ x. IsLetterBefore (spelling_of tokens) x p c) reads.2 (record { scalar = is.1; occurs = is.2 }) in
-          let gap : IsLetterBefore (spelling_of tokens) q behind.0 blank = subst (λ x. IsLetterBefore (spelling_of tokens) x behind.0 blank) (sym behind.1) (blank-before (spelling_of tokens) behind.0 behind.2) in
-          at.0 (letter-one (spelling_of tokens) q p c behind.0 blank (spelling-utf8 tokens texts) occurs gap).1
-  streak-ends (c ∷ d ∷ w) s t p q other some taken reads behind = streak-ends (d ∷ w) taken.0 t reads.0 q other (omega arith) taken.2 reads.2 behind
+          let gap : IsLetterBefore (spelling_of tokens) q following.0 blank = subst (λ x. IsLetterBefore (spelling_of tokens) x following.0 blank) (sym following.1) (blank-before (spelling_of tokens) following.0 following.2) in
+          at.0 (letter-one (spelling_of tokens) q p c following.0 blank (spelling-utf8 tokens texts) occurs gap).1
+  streak-ends (c ∷ d ∷ w) s t p q other some taken reads following = streak-ends (d ∷ w) taken.0 t reads.0 q other (omega arith) taken.2 reads.2 following

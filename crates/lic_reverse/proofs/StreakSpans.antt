@@ -46,12 +46,12 @@ module _ (keep : Keep) (tokens : List TokenValue) (texts : AreTexts tokens) (pas
   streak-no_place none = back-nothing keep tokens Words (At tokens span number) (λ p q l w e is reads. none q e.1)
 
   -- a blank comes before it
-  pub streak-behind : (place : ℕ) → after ≡ false → IsPlaceOf tokens span.kind number place → IsAfterBlank (spelling_of tokens) place →
+  pub streak-following : (place : ℕ) → after ≡ false → IsPlaceOf tokens span.kind number place → IsAfterBlank (spelling_of tokens) place →
       IsBackFrom keep tokens Words (At tokens span number) []
-  streak-behind place is_not here behind = back-nothing keep tokens Words (At tokens span number) (λ p q l w e is reads.
+  streak-following place is_not here following = back-nothing keep tokens Words (At tokens span number) (λ p q l w e is reads.
       let same : place ≡ q = place-one tokens span.kind number place q here e.1 in
       streak-ends tokens texts w a_letter nothing p q nothing-no_letter (streak-long w is.0) (subst (λ b. IsTakenBack a_letter w (before_of b)) is_not is.1) reads
-      (subst (λ x. IsAfterBlank (spelling_of tokens) x) same behind))
+      (subst (λ x. IsAfterBlank (spelling_of tokens) x) same following))
 
   -- no letter that passes is there
   pub streak-none : (place low : ℕ) → IsPlaceOf tokens span.kind number place → IsStreakStart (spelling_of tokens) passes count place low → place ≤ low →

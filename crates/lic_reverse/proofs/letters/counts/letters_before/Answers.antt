@@ -32,4 +32,4 @@ returns-clause-some c = λ keep.
     c.in_ok-place.ensures in
     back-counted keep tokens place span.last (IsOfNumber tokens span c.args.number) (number-at tokens span c.args.number place c.in_ok-place.ensures)
     c.tokens_have_texts.ensures lies (omega (arith, c.if-place-eq0.false))
-    (λ behind. true≢false (sym (c.is_after_blank.ensures.1 behind) ∙ c.if-is_after_blank.false)) (c.in_ok-place.ensures, refl)
+    (λ following. true≢false (sym (c.is_after_blank.ensures.1 following) ∙ c.if-is_after_blank.false)) (c.in_ok-place.ensures, refl)

@@ -4,7 +4,7 @@ use Rattle.lic_ere.specs.Trees.{tree_of}
 use Rattle.lic_places.specs.Places.{IsAfterBlank, spelling_of}
 use Rattle.lic_reverse.specs.Passing.{passes_of}
 use Rattle.lic_view.proofs.ViewSpans.{within-one}
-use Rattle.lic_reverse.proofs.StreakSpans.{may-go_on, streak-behind, streak-no_place, streak-none, streak-some}
+use Rattle.lic_reverse.proofs.StreakSpans.{may-go_on, streak-following, streak-no_place, streak-none, streak-some}
 use Rattle.lic_reverse.proofs.letters.streaks.streak_before.Goals as goal
 use Rattle.lic_reverse.proofs.letters.streaks.streak_before.Goals.{else-not-letters-via-then-not-letters+else-is_after_blank, else-not-letters-via-else-not-letters}
 
@@ -20,7 +20,7 @@ returns-in_err-place-clause-back c =
 pub returns-then-is_after_blank-clause-back : goal.returns-then-is_after_blank-clause-back
 returns-then-is_after_blank-clause-back c =
     let letters = c.args.letters.now in
-    λ keep. streak-behind keep c.args.view.now c.tokens_have_texts.ensures (passes_of (tree_of letters.ere.now)) letters.count letters.after c.args.span c.args.number c.in_ok-place.place
+    λ keep. streak-following keep c.args.view.now c.tokens_have_texts.ensures (passes_of (tree_of letters.ere.now)) letters.count letters.after c.args.span c.args.number c.in_ok-place.place
     c.if-not-letters.true c.in_ok-place.ensures (c.is_after_blank.ensures.0 c.if-is_after_blank.true)
 
 pub returns-then-low-place-clause-back : goal.returns-then-low-place-clause-back
@@ -35,7 +35,7 @@ returns-clause-back c =
     let free : (letters.after ≡ true) ⊎ ¬ (IsAfterBlank (spelling_of c.args.view.now) c.in_ok-place.place) =
     elim c.else-not-letters.branch [
       | else-not-letters-via-then-not-letters+else-is_after_blank w ↦
-          inr (λ behind. true≢false (sym (w.is_after_blank.ensures.1 behind) ∙ w.if-is_after_blank.false))
+          inr (λ following. true≢false (sym (w.is_after_blank.ensures.1 following) ∙ w.if-is_after_blank.false))
       | else-not-letters-via-else-not-letters w ↦ inl w.if-not-letters.false
     ] in
     λ keep. streak-some keep c.args.view.now c.tokens_have_texts.ensures (passes_of (tree_of letters.ere.now)) letters.count letters.after c.args.span c.args.number c.in_ok-place.place
