@@ -1,10 +1,10 @@
 //! From the bytes of an input to the bytes of its report.
 
-ghost use Rattle.std.specs.Prelude.{◌≡◌, ◌≢◌, ◌⊎◌, ℕ, List, length, IfOk, OnErr, IsErrOf, nat_lt};
+ghost use Rattle.std.specs.Prelude.{◌≡◌, ◌≢◌, ◌⊎◌, ◌++◌, ℕ, List, length, IfOk, OnErr, OnOk, IsErrOf, nat_lt};
 ghost use Rattle.std.specs.Io.KnownBytes.{Appends};
 ghost use Rattle.lic_kind.specs.LineRules.{rules_of};
 ghost use Rattle.lic_norm.specs.Tokens.{tokens_of};
-ghost use Rattle.lic_stream.specs.Stream.{BeginsWith, ReadsUpTo};
+ghost use Rattle.lic_stream.specs.Stream.{BeginsWith, ReadsUpTo, one_more};
 ghost use Rattle.lic_report.specs.Report.{AreAllLines, IsReport, IsReportOf, token_lines};
 ghost use Rattle.lic_engine.specs.Failures.{CountsReads, CountsWrites, IsOfWriting, Keeps};
 ghost use Rattle.lic_engine.specs.Inputs.{IsAccepted, IsRefused, IsUnrefused};
@@ -13,18 +13,20 @@ use crate::fault::RunFault;
 use crate::input::read_text;
 use crate::memory::Memory;
 use crate::outer::report_outer;
-use lic_fields::LineFront;
+use lic_fields::{LineBuffer, LineFront};
 use lic_find::Ask;
 use lic_kind::Rules;
 use lic_norm::{Text, TextFault, Words};
 use lic_report::{MatchLines, Wanted, add_file, add_token};
 use lic_set::Set;
-use lic_stream::{Sink, Source, put_all, put_gathered};
+use lic_stream::{Sink, Source, WriteFailed, put_all, put_gathered};
 use std::alloc::Global;
 
-/// Memory for the lines of tokens that are gathered before they are written, and for the one after which they are enough: mostly the
-/// list never grows.
-const GATHERED: usize = 66_560;
+/// How many bytes of lines of tokens are gathered before they are written.
+const ENOUGH: usize = 65_536;
+
+/// Memory for them, and for the line after which they are enough: mostly the list never grows.
+const GATHERED: usize = 74_752;
 
 /// Writes the lines of all matches that are asked for, and says whether there was one.
 fn report_all<W: Sink>(
@@ -132,9 +134,26 @@ pub fn run<R: Source, W: Sink>(
     some
 }
 
-/// Writes the lines of a text's tokens, and says whether there was one.
+/// Writes the lines of tokens that were gathered, if they are enough, and takes them away.
+fn put_enough<W: Sink>(out: &mut W, lines: &mut LineBuffer) -> Result<(), WriteFailed>
+    ensures ok { OnOk result
+        ((put : List ℕ) × Appends (W.taken out.old) (W.taken out.new) put × (lines.old ≡ put ++ lines.new)) }
+    ensures part { OnErr result (BeginsWith (W.taken out.old) (W.taken out.new) lines.old) }
+    ensures sound { OnOk result (W.failed out.new ≡ W.failed out.old) }
+    ensures failed { OnErr result (W.failed out.new ≡ one_more (W.failed out.old)) }
+{
+    if lines.len() < ENOUGH {
+        return Ok(());
+    }
+    put_all(out, lines.as_slice())?;
+    lines.clear();
+    Ok(())
+}
+
+/// Writes the lines of a text's tokens, and says whether there was one. What the buffer holds has no effect.
 fn report_tokens<W: Sink>(
     alloc: Global,
+    lines: &mut LineBuffer,
     name: &str,
     text: &Text,
     out: &mut W,
@@ -150,10 +169,11 @@ fn report_tokens<W: Sink>(
     let mut file = Vec::new(alloc);
     add_file(&mut file, name)?;
     let mut front = LineFront::new(file)?;
-    let mut lines = Vec::with_capacity(alloc, GATHERED)?;
+    lines.clear();
+    lines.reserve(GATHERED)?;
     for i in 0..text.len() {
-        add_token(&mut lines, &mut front, text, i)?;
-        put_gathered(out, &mut lines)?;
+        add_token(lines, &mut front, text, i)?;
+        put_enough(out, lines)?;
     }
     put_all(out, lines.as_slice())?;
     Ok(text.len() > 0)
@@ -200,7 +220,7 @@ pub fn run_tokens<R: Source, W: Sink>(
     ensures most { ReadsUpTo (R.left input.old) (R.left input.new) 67108865 }
 {
     let text = read_text(memory, input, words, rules)?;
-    let some = report_tokens(memory.alloc(), name, &text, out);
+    let some = report_tokens(memory.alloc(), &mut memory.lines, name, &text, out);
     memory.keep(text);
     some
 }

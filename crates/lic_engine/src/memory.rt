@@ -3,6 +3,7 @@
 ghost use Rattle.std.specs.Prelude.{◌≡◌, [], None};
 ghost use Rattle.lic_kind.specs.LineRules.{rules_of};
 
+use lic_fields::LineBuffer;
 use lic_kind::Rules;
 use lic_norm::{Feeder, Text, Words};
 use std::alloc::Global;
@@ -14,6 +15,8 @@ pub struct Memory {
     text: Option<Text>,
     /// What one call reads.
     pub(crate) chunk: Vec<u8>,
+    /// Lines of tokens that are gathered.
+    pub(crate) lines: LineBuffer,
 }
 
 impl Memory {
@@ -23,6 +26,7 @@ impl Memory {
             alloc,
             text: None,
             chunk: Vec::new(alloc),
+            lines: LineBuffer::new(alloc),
         }
     }
 

@@ -1,9 +1,8 @@
 -- Parts of a line that are written over others, and blocks of which the front counts.
 use Rattle.std.proofs.Common.{◌≡◌, ℕ, ◌+◌, ◌-◌, ◌≤◌, List, [], ◌∷◌, ◌++◌, length, take, drop, set, sym, ap, ap₂, ◌∙◌, arith, append_assoc, length-append, length-drop}
-use Rattle.std.proofs.Math.Seq.{take-append-add, take-append_seam}
+use Rattle.std.proofs.Math.Seq.{take-add, take-append-add, take-append_seam}
 use Rattle.std.proofs.lemmas.List.{length-take-le, take-append-le, take-take, take_more_set}
 use Rattle.lic_fields.specs.Fields.{escaped, field}
-use Rattle.lic_fields.proofs.PlainBytes.{block_cut}
 use Rattle.std.proofs.lemmas.Simd.{length-put_chunk, put_chunk_is}
 use Rattle.std.specs.Simd.Lanes.{chunk, put_chunk}
 use borrow.Rule.Slice.PartMut.{put_mid}
@@ -53,17 +52,33 @@ parts_written bytes mid buffer x y rest same at fits low long is parts lens =
     (ap (take (42 - at)) mid_is ∙ (take-take (42 - at) 42 (drop at buffer) (omega arith)
     ∙ (ap (take (42 - at)) parts ∙ both_taken x y rest (42 - at) (sym lens))))
 
--- a block that was added, and its front
-pub block_front : (old bytes new : List ℕ) (n wide : ℕ) → n ≤ wide → new ≡ old ++ take wide bytes → take (length old + n) new ≡ old ++ take n bytes
-block_front old bytes new n wide short is = ap (take (length old + n)) is ∙ block_cut old bytes n wide short
-
-pub block_after : (old bytes new : List ℕ) (n wide : ℕ) → n + 17 ≤ wide → wide ≤ length bytes → new ≡ old ++ take wide bytes → length old + n + 17 ≤ length new
-block_after old bytes new n wide fits within is =
-    let long = ap length is ∙ length-append old (take wide bytes) in
-    let taken = length-take-le wide bytes within in
-    omega (arith, long, taken, fits)
-
 -- a line that is cut after a text of which nothing is escaped
 pub line_cut : (bytes text : List ℕ) (end len : ℕ) → escaped (take len text) ≡ take len text
     → take end bytes ++ (take len text ++ 0x0A ∷ []) ≡ take end bytes ++ field (escaped (take len text)) 0x0A
 line_cut bytes text end len plain = ap (λ l. take end bytes ++ field l 0x0A) (sym plain)
+
+-- bytes written at a place by lanes
+pub lanes_written : (bytes from : List ℕ) (place n : ℕ) → place + n ≤ length bytes → n ≤ length from
+    → take (place + n) (put_chunk place bytes (take n from)) ≡ take place bytes ++ take n from
+lanes_written bytes from place n fits long =
+    let part : length (take n from) ≡ n = length-take-le n from long in
+    let start : length (take place bytes) ≡ place = length-take-le place bytes (omega (arith, fits)) in
+    ap (take (place + n)) (put_chunk_is place bytes (take n from) (omega (arith, part, fits)))
+    ∙ both_taken (take place bytes) (take n from) _ (place + n) (omega (arith, part, start))
+
+-- two parts of a block, one written after the other, and the bytes of it that count
+pub parts_front : (old mid new block : List ℕ) (place a b len : ℕ) → place ≤ length old → a + b ≤ length block → len ≤ a + b
+    → take (place + a) mid ≡ take place old ++ take a block
+    → take (place + a + b) new ≡ take (place + a) mid ++ take b (take (length block - a) (drop a block))
+    → take (place + len) new ≡ take place old ++ take len block
+parts_front old mid new block place a b len within long short one two =
+    let start : length (take place old) ≡ place = length-take-le place old within in
+    let after : take b (take (length block - a) (drop a block)) ≡ take b (drop a block) =
+    take-take b (length block - a) (drop a block) (omega (arith, long)) in
+    let whole : take (place + a + b) new ≡ take place old ++ take (a + b) block =
+    two ∙ (ap₂ (λ x y. x ++ y) one after ∙ (append_assoc (take place old) (take a block) (take b (drop a block))
+    ∙ ap (λ l. take place old ++ l) (sym (take-add a b block)))) in
+    sym (take-take (place + len) (place + a + b) new (omega (arith, short)))
+    ∙ (ap (take (place + len)) whole
+    ∙ (ap (λ n. take (n + len) (take place old ++ take (a + b) block)) (sym start)
+    ∙ (take-append-add (take place old) (take (a + b) block) len ∙ ap (λ l. take place old ++ l) (take-take len (a + b) block short))))

@@ -6,10 +6,12 @@ ghost use Rattle.std.specs.Fmt.{WritesOnOk};
 ghost use Rattle.lic_fields.specs.Fields.{ArePlain, escaped_byte, escaped, field};
 
 mod last_digits;
+mod line_buffer;
 mod line_front;
 mod thousand;
 
 use itoa::{Buffer, write_digits};
+pub use line_buffer::LineBuffer;
 pub use line_front::LineFront;
 use std::alloc::AllocError;
 use std::fmt;

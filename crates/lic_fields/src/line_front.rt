@@ -1,10 +1,11 @@
 //! Lines that begin with the same bytes and two numbers, and end with a text.
 
-ghost use Rattle.std.specs.Prelude.{◌≡◌, ◌<◌, ◌≤◌, ◌+◌, ◌*◌, ◌^◌, ◌/◌, ◌%◌, ◌-◌, ◌∷◌, ◌++◌, [], true, IfOk, OnOk, decimal, drop, length, take};
-ghost use Rattle.lic_fields.specs.Fields.{escaped, field};
+ghost use Rattle.std.specs.Prelude.{◌≡◌, ◌<◌, ◌≤◌, ◌+◌, ◌*◌, ◌^◌, ◌/◌, ◌%◌, ◌-◌, ◌∷◌, ◌++◌, [], true, IfOk, IsTrue, OnErr, OnOk, decimal, drop, length, replicate, take};
+ghost use Rattle.lic_fields.specs.Fields.{ArePlain, escaped, field};
 
+use crate::line_buffer::{LineBuffer, make_space};
 use crate::thousand::Thousand;
-use crate::{TWO_NUMBERS, add_text, add_two_numbers, has_escaped, write_number};
+use crate::{TWO_NUMBERS, has_escaped, write_number};
 use std::alloc::AllocError;
 use std::marker::Model;
 use std::simd::prelude::*;
@@ -12,10 +13,7 @@ use std::simd::prelude::*;
 /// How many bytes of a text are copied at once: most texts have fewer.
 const COPIED: usize = 16;
 
-/// How many bytes come after both numbers: those of a text that are copied, and the line end.
-const AFTER: usize = 17;
-
-/// How many bytes are copied at once, if they are enough.
+/// How many bytes of what a line begins with are copied at once, if they are enough.
 const SHORT: usize = 80;
 
 /// How many bytes are copied at once otherwise: most lines have fewer.
@@ -48,42 +46,58 @@ fn write_numbers(bytes: &mut [u8], same: usize, first: u64, second: u64) -> (usi
     (same + (middle - at), same + (TWO_NUMBERS - at))
 }
 
-/// Adds the first `len` of these bytes, and some after them: mostly they are few, and a copy of a fixed length takes less time.
+/// Copies 64 bytes to a place.
 #[inline(always)]
-fn add_block(lines: &mut Vec<u8>, bytes: &[u8], len: usize) -> Result<(), AllocError>
-    requires { (128 ≤ length bytes.now) × (len + 17 ≤ length bytes.now) }
-    ensures front { OnOk result (take (length lines.old.items + len) lines.new.items
-        ≡ lines.old.items ++ take len bytes.now) }
-    ensures after { OnOk result (length lines.old.items + len + 17 ≤ length lines.new.items) }
+fn copy_64(bytes: &mut [u8], place: usize, from: &[u8])
+    requires fits { place + 64 ≤ length bytes.old }
+    requires long { 64 ≤ length from.now }
+    ensures copied { take (place + 64) bytes.new ≡ take place bytes.old ++ take 64 from.now }
+    ensures len { length bytes.new ≡ length bytes.old }
 {
-    if len + AFTER <= SHORT {
-        lines.extend_from_slice(&bytes[..SHORT])?;
-        return Ok(());
-    }
-    if len + AFTER <= LONG {
-        lines.extend_from_slice(&bytes[..LONG])?;
-        return Ok(());
-    }
-    lines.extend_from_slice(&bytes[..len + AFTER])?;
-    Ok(())
+    u8x64::from_slice(from).copy_to_slice(&mut bytes[place..]);
 }
 
-/// Adds these bytes, two numbers as fields, and some bytes after them. Answers where the fields end.
-fn add_whole(
-    lines: &mut Vec<u8>,
-    bytes: &[u8],
-    first: u64,
-    second: u64,
-) -> Result<usize, AllocError>
-    ensures front { IfOk result (λ end. take end lines.new.items
-        ≡ lines.old.items ++ (bytes.now ++ (field (decimal first) 0x09 ++ field (decimal second) 0x09))) }
-    ensures after { IfOk result (λ end. end + 17 ≤ length lines.new.items) }
+/// Copies 16 bytes to a place.
+#[inline(always)]
+fn copy_16(bytes: &mut [u8], place: usize, from: &[u8])
+    requires fits { place + 16 ≤ length bytes.old }
+    requires long { 16 ≤ length from.now }
+    ensures copied { take (place + 16) bytes.new ≡ take place bytes.old ++ take 16 from.now }
+    ensures len { length bytes.new ≡ length bytes.old }
 {
-    lines.extend_from_slice(bytes)?;
-    add_two_numbers(lines, first, second)?;
-    let end = lines.len();
-    lines.extend_from_slice(&[0; AFTER])?;
-    Ok(end)
+    u8x16::from_slice(from).copy_to_slice(&mut bytes[place..]);
+}
+
+/// Writes the first `len` of these bytes at a place, and mostly some after them, so that nothing depends on how many they are.
+#[inline(always)]
+fn write_block(bytes: &mut [u8], place: usize, block: &[u8], len: usize)
+    requires long { 128 ≤ length block.now }
+    requires within { len ≤ length block.now }
+    requires fits { place + length block.now ≤ length bytes.old }
+    ensures written { take (place + len) bytes.new ≡ take place bytes.old ++ take len block.now }
+    ensures len { length bytes.new ≡ length bytes.old }
+{
+    if len <= SHORT {
+        copy_64(bytes, place, block);
+        copy_16(bytes, place + 64, &block[64..]);
+        return;
+    }
+    if len <= LONG {
+        copy_64(bytes, place, block);
+        copy_64(bytes, place + 64, &block[64..]);
+        return;
+    }
+    bytes[place..place + len].copy_from_slice(&block[..len]);
+}
+
+/// Whether the first `len` bytes of a text can be written as they are, with others after them: they are few, and none is escaped.
+#[inline(always)]
+fn is_short(text: &[u8], len: usize) -> bool
+    ensures short { IsTrue result → len ≤ 16 }
+    ensures long { IsTrue result → 16 ≤ length text.now }
+    ensures plain { IsTrue result → ArePlain (take 16 text.now) }
+{
+    len <= COPIED && text.len() >= COPIED && !has_escaped(&text[..COPIED])
 }
 
 /// Writes the first `len` bytes of a short text at `end`, and the line end after them.
@@ -96,23 +110,6 @@ fn write_text(bytes: &mut [u8], end: usize, text: &[u8], len: usize)
 {
     u8x16::from_slice(text).copy_to_slice(&mut bytes[end..]);
     bytes[end + len] = b'\n';
-}
-
-/// Ends a line at `end`, where some bytes come after it, with the first `len` bytes of a text as its last field. Mostly they are few
-/// and unchanged, and are written over those bytes.
-#[inline(always)]
-fn end_line(lines: &mut Vec<u8>, end: usize, text: &[u8], len: usize) -> Result<(), AllocError>
-    requires { (len ≤ length text.now) × (end + 17 ≤ length lines.old.items) }
-    ensures { OnOk result (lines.new.items
-        ≡ take end lines.old.items ++ field (escaped (take len text.now)) 0x0A) }
-{
-    if len > COPIED || text.len() < COPIED || has_escaped(&text[..COPIED]) {
-        lines.truncate(end);
-        return add_text(lines, &text[..len], b'\n');
-    }
-    write_text(lines, end, text, len);
-    lines.truncate(end + len + 1);
-    Ok(())
 }
 
 /// Adds lines that begin with bytes that are the same in all, and two numbers as fields, a tab after each. What was written last is
@@ -161,11 +158,13 @@ impl LineFront {
         })
     }
 
-    /// Adds a line: the bytes that are the same in all, these numbers, and the first `len` bytes of a text.
+    /// Adds a line: the bytes that are the same in all, these numbers, and the first `len` bytes of a text. Mostly the numbers differ
+    /// from those before in their last three digits alone, the text is short, and bytes enough come after the lines: then it is written
+    /// over them.
     #[inline(always)]
     pub fn add_line(
         &mut self,
-        lines: &mut Vec<u8>,
+        lines: &mut LineBuffer,
         first: u64,
         second: u64,
         text: &[u8],
@@ -173,65 +172,65 @@ impl LineFront {
     ) -> Result<(), AllocError>
         requires { len ≤ length text.now }
         ensures same { OnOk result (self.new ≡ self.old) }
-        ensures line { OnOk result (lines.new.items ≡ lines.old.items
+        ensures line { OnOk result (lines.new ≡ lines.old
             ++ (self.old ++ (field (decimal first) 0x09 ++ (field (decimal second) 0x09
             ++ field (escaped (take len text.now)) 0x0A)))) }
     {
-        let end = self.add_numbers(lines, first, second)?;
-        end_line(lines, end, text, len)
-    }
-
-    /// Adds what the line begins with, and some bytes after it. Answers where it ends.
-    #[inline(always)]
-    fn add_numbers(
-        &mut self,
-        lines: &mut Vec<u8>,
-        first: u64,
-        second: u64,
-    ) -> Result<usize, AllocError>
-        ensures same { OnOk result (self.new ≡ self.old) }
-        ensures front { IfOk result (λ end. take end lines.new.items
-            ≡ lines.old.items ++ (self.old ++ (field (decimal first) 0x09 ++ field (decimal second) 0x09))) }
-        ensures after { IfOk result (λ end. end + 17 ≤ length lines.new.items) }
-    {
         if let Some(one) = self.first.digits_of(first)
             && let Some(two) = self.second.digits_of(second)
+            && is_short(text, len)
         {
             let first_four = u8x4::from_slice(one);
             let second_four = u8x4::from_slice(two);
-            let start = lines.len();
+            make_space(&mut lines.bytes, lines.len, self.bytes.len())?;
+            let start = lines.len;
             let end = start + self.len;
-            add_block(lines, &self.bytes, self.len)?;
-            write_four(lines, start + self.first_end, first_four);
-            write_four(lines, end, second_four);
-            return Ok(end);
+            write_block(&mut lines.bytes, start, &self.bytes, self.len);
+            write_four(&mut lines.bytes, start + self.first_end, first_four);
+            write_four(&mut lines.bytes, end, second_four);
+            write_text(&mut lines.bytes, end, text, len);
+            lines.len = end + len + 1;
+            return Ok(());
         }
-        self.add_anew(lines, first, second)
+        self.add_anew(lines, first, second, &text[..len])
     }
 
-    /// Adds the same, and keeps it, if both numbers have three digits or more.
+    /// Adds a line field by field, and keeps its numbers where they are not known.
     #[inline(never)]
     fn add_anew(
         &mut self,
-        lines: &mut Vec<u8>,
+        lines: &mut LineBuffer,
         first: u64,
         second: u64,
-    ) -> Result<usize, AllocError>
-        ensures same { OnOk result (self.new ≡ self.old) }
-        ensures front { IfOk result (λ end. take end lines.new.items
-            ≡ lines.old.items ++ (self.old ++ (field (decimal first) 0x09 ++ field (decimal second) 0x09))) }
-        ensures after { IfOk result (λ end. end + 17 ≤ length lines.new.items) }
+        text: &[u8],
+    ) -> Result<(), AllocError>
+        ensures same { self.new ≡ self.old }
+        ensures line { OnOk result (lines.new ≡ lines.old
+            ++ (self.old ++ (field (decimal first) 0x09 ++ (field (decimal second) 0x09
+            ++ field (escaped text.now) 0x0A)))) }
+    {
+        if !self.knows(first, second) {
+            self.keep(first, second);
+        }
+        lines.add(&self.bytes[..self.same], first, second, text)
+    }
+
+    /// Whether two numbers differ from those that are kept in their last three digits alone.
+    fn knows(&self, first: u64, second: u64) -> bool {
+        self.first.digits_of(first).is_some() && self.second.digits_of(second).is_some()
+    }
+
+    /// Keeps two numbers, if both have three digits or more.
+    fn keep(&mut self, first: u64, second: u64)
+        ensures { self.new ≡ self.old }
     {
         let (Some(one), Some(two)) = (Thousand::of(first), Thousand::of(second)) else {
-            return add_whole(lines, &self.bytes[..self.same], first, second);
+            return;
         };
         let (first_end, len) = write_numbers(&mut self.bytes, self.same, first, second);
         self.first_end = first_end;
         self.len = len;
         self.first = one;
         self.second = two;
-        let end = lines.len() + len;
-        add_block(lines, &self.bytes, len)?;
-        Ok(end)
     }
 }

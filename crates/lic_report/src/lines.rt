@@ -8,7 +8,7 @@ ghost use Rattle.lic_vars.specs.Views.{value_of};
 ghost use Rattle.lic_report.specs.Checking.{check_line};
 ghost use Rattle.lic_report.specs.Report.{token_line, place_fields, value_line, no_known, no_token};
 
-use lic_fields::{LineFront, add_number, add_text, add_two_numbers};
+use lic_fields::{LineBuffer, LineFront, add_number, add_text, add_two_numbers};
 use lic_norm::{Span, Text};
 use lic_set::Set;
 use lic_vars::Value;
@@ -25,7 +25,7 @@ pub fn add_file(lines: &mut Vec<u8>, name: &str) -> Result<(), AllocError>
 /// the token and its end, and its text.
 #[inline(always)]
 pub fn add_token(
-    lines: &mut Vec<u8>,
+    lines: &mut LineBuffer,
     front: &mut LineFront,
     text: &Text,
     i: usize,
@@ -33,7 +33,7 @@ pub fn add_token(
     requires { i < length text.now.tokens }
     ensures same { OnOk result (front.new ≡ front.old) }
     ensures line { OnOk result ((name : List ℕ) → front.old ≡ field (escaped name) 0x09
-        → lines.new.items ≡ lines.old.items
+        → lines.new ≡ lines.old
         ++ token_line name (slice_index_or text.now.tokens i no_token)) }
 {
     let span = text.span(i);

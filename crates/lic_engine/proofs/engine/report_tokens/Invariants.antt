@@ -8,6 +8,6 @@ abbrev pub invariant-loop-i : goal.invariant-loop-i
 invariant-loop-i g l =
     record {
       front : l.front ≡ field (escaped l.name) 0x09;
-      put : IsPut (g.W.Sink.taken l.initial.out) (g.W.Sink.taken l.out) l.lines.items (token_lines l.name (take l.i l.text.tokens));
+      put : IsPut (g.W.Sink.taken l.initial.out) (g.W.Sink.taken l.out) l.lines (token_lines l.name (take l.i l.text.tokens));
       sound : g.W.Sink.failed l.out ≡ g.W.Sink.failed l.initial.out;
     }

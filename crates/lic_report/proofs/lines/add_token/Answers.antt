@@ -39,6 +39,6 @@ returns-clause-line c name file =
     let text = (get_or tokens c.args.i no_token).text in
     let long : c.place-start.result.end - c.place-start.result.start ≡ length text =
     omega (arith, c.place-start.ensures.start, c.place-start.ensures.end, text-long tokens c.args.i no_token c.requires) in
-    line-is c.args.lines.now.items c.args.front.now _ name _ c.span-span.result (get_or tokens c.args.i no_token) _ file
+    line-is c.args.lines.now c.args.front.now _ name _ c.span-span.result (get_or tokens c.args.i no_token) _ file
     c.in_ok-add_line.ensures.line (c.span-span.ensures no_token)
     (ap₂ take long part ∙ text-taken tokens c.args.i no_token c.requires)

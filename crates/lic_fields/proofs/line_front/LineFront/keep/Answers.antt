@@ -2,7 +2,7 @@ use Rattle.std.proofs.Common.{◌≡◌, length, take, ap, sym, subst, ◌∙◌
 use Rattle.std.proofs.lemmas.List.{with_items_is}
 use Rattle.lic_fields.specs.Fronts.{IsKept}
 use Rattle.lic_fields.proofs.LineFronts.{kept_of, same_stays}
-use Rattle.lic_fields.proofs.line_front.LineFront.add_anew.Goals as goal
+use Rattle.lic_fields.proofs.line_front.LineFront.keep.Goals as goal
 
 pub invariant_of-self : goal.invariant_of-self
 invariant_of-self c =
@@ -21,25 +21,8 @@ invariant_of-self c =
     c.write_numbers-first_end.ensures.written c.write_numbers-first_end.result.0 _ _ one.0 two.0 one.1 two.1
     c.write_numbers-first_end.ensures.first c.write_numbers-first_end.ensures.end (omega (arith, start, enough, long)))
 
-pub invariant_of-self-2 : goal.invariant_of-self-2
-invariant_of-self-2 c =
-    let one = c.in-Some-Some.ensures in
-    let two = c.in-Some-Some.ensures' in
-    let kept = c.self.inside in
-    let len = c.write_numbers-first_end.result.1 in
-    let old = c.deref_mut.result.now in
-    let bytes = c.write_numbers-first_end.new.bytes in
-    let start : length old ≡ length kept.bytes.items = ap length c.deref_mut.ensures.value in
-    let enough = c.self.invariant.enough in
-    let held = with_items_is kept.bytes bytes (omega (arith, c.write_numbers-first_end.auto, c.deref_mut.ensures.len)) in
-    let long : length bytes ≡ length old = c.write_numbers-first_end.ensures.len in
-    subst (λ b. IsKept b kept.same c.write_numbers-first_end.result.0 len c.in-Some-Some.one c.in-Some-Some.two) (sym held)
-    (kept_of old bytes kept.same len c.args.first c.args.second (omega (arith, start, enough)) (omega (arith, start, enough, long, c.write_numbers-first_end.ensures.end))
-    c.write_numbers-first_end.ensures.written c.write_numbers-first_end.result.0 _ _ one.0 two.0 one.1 two.1
-    c.write_numbers-first_end.ensures.first c.write_numbers-first_end.ensures.end (omega (arith, start, enough, long)))
-
-pub returns-clause-same : goal.returns-clause-same
-returns-clause-same c =
+pub returns : goal.returns
+returns c =
     let kept = c.self.inside in
     let old = c.deref_mut.result.now in
     let bytes = c.write_numbers-first_end.new.bytes in
