@@ -7,23 +7,11 @@ ghost use Rattle.lic_columns.specs.Known.{known_of};
 
 use crate::columns::Columns;
 use lic_lines::Rules;
-use lic_trim::{LineCut, SourceChar, cut_of_ascii, takes_spaces};
+use lic_trim::{SourceChar, cut_with_spaces};
 use std::alloc::{AllocError, Global};
 
-/// Takes lead, item and tail of a line away, which is from `at` to `end`.
-#[inline]
-pub fn clear_edges(cut: LineCut, at: usize, end: usize, columns: &mut Columns)
-    requires within { at + cut.lead + cut.item + cut.tail ≤ end }
-    requires word { end ≤ length columns.old.word }
-    requires mark { end ≤ length columns.old.mark }
-    ensures { columns.new ≡ edges_blanked cut at end columns.old }
-{
-    columns.clear(at, at + (cut.lead + cut.item));
-    columns.clear(end - cut.tail, end);
-}
-
-/// Takes lead, item and tail of a line of ASCII away, which is from `at` on. Mostly they are white space, which counts as a blank
-/// already. The characters are a buffer for those of the line, whatever they hold.
+/// Takes lead, item and tail of a line of ASCII away, which is from `at` on. White space at its edges, which is mostly all of them, counts
+/// as a blank already. The characters are a buffer for those of the line, whatever they hold.
 ///
 /// # Errors
 /// Memory ran out. What of the line is then cleared is not said.
@@ -44,11 +32,11 @@ fn clear_line(
     ensures { OnOk result (columns.new
         ≡ edges_blanked (cut_of (rules_of rules.now) whole_line line.now) at (at + length line.now) columns.old) }
 {
-    if takes_spaces(rules, line) {
-        return Ok(());
-    }
-    let cut = cut_of_ascii(alloc, rules, line, characters)?;
-    clear_edges(cut, at, at + line.len(), columns);
+    let found = cut_with_spaces(alloc, rules, line, characters)?;
+    let cut = found.cut;
+    let end = at + line.len();
+    columns.clear(at + found.front, at + (cut.lead + cut.item));
+    columns.clear(end - cut.tail, end - found.end);
     Ok(())
 }
 

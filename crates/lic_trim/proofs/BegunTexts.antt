@@ -4,7 +4,7 @@ use Rattle.std.specs.Prelude.{nat_lt}
 use Rattle.std.specs.Char.{is_whitespace}
 use Rattle.std.specs.List.{list_any}
 use Rattle.std.specs.Int.{trailing_zeros}
-use Rattle.std.proofs.lemmas.Bool.{false≢true, and_parts, and_from, or_cases, or_left, or_right, cases_Bool, cases_eq, ltb-true, lt-ltb}
+use Rattle.std.proofs.lemmas.Bool.{false≢true, and_parts, and_from, or_cases, or_left, or_right, cases_Bool, cases_eq, eqb-true, ltb-true, lt-ltb}
 use Rattle.lic_kind.proofs.BeginningLemmas.{some_bit}
 use Rattle.lic_kind.specs.Beginnings.{may_be_next, may_begin}
 use Rattle.lic_kind.specs.LineRules.{LineRules}
@@ -13,7 +13,7 @@ use Rattle.lic_trim.specs.PieceLengths.{has_bit, begins_with_length}
 use Rattle.lic_trim.specs.Walks.{Side, walked, side_texts, side_spaced, side_repeated, begins_with_text, may_begin_with}
 use Rattle.lic_trim.proofs.LowestBit.{without_lowest, others_stay}
 use Rattle.lic_trim.proofs.PieceLengths.{has_bit_zero}
-use Rattle.lic_trim.proofs.SpaceSequences.{or_off}
+use Rattle.lic_trim.proofs.SpaceSequences.{or_none, or_off}
 use Rattle.lic_trim.proofs.Stops.{any_some, any_from}
 use Rattle.lic_trim.proofs.TextLemmas.{same_truth}
 
@@ -70,6 +70,62 @@ module _ (c d : ℕ) where
           or_off _ _ (none_occurs (side_texts rules side) (λ i lt may. some_bit mask i (texts i lt may)) none)
           (or_off _ _ (none_occurs (side_spaced rules side) spaced none) (none_occurs (side_repeated rules side) repeated none));
     }
+
+-- ---- where a way begins with no text, and none begins in white space, no other way does that begins in white space
+
+module _ (rules : LineRules) (side : Side) (before way : List ℕ) (none : HasBegun rules side before 0) (white : is_whitespace (get_or way 0 0) ≡ true) where
+  -- a text that begins so has no character, or begins in white space
+  in_space : (t : List ℕ) → begins_with_text way t ≡ true → (begins_with_text before t ≡ true) ⊎ (may_begin_with before t ≡ true)
+  in_space [] begins = inl refl
+  in_space (a ∷ t) begins = inr (or_left (is_whitespace a) (begins_with_text before (a ∷ t)) (head way white begins))
+    where
+      head : (l : List ℕ) → is_whitespace (get_or l 0 0) ≡ true → begins_with_text l (a ∷ t) ≡ true → is_whitespace a ≡ true
+      head [] light is = absurd (false≢true is)
+      head (x ∷ l) light is =
+          let same : x ≡ a = eqb-true x a (and_parts (x == a) (begins_with_text l t) is).0 in
+          ap is_whitespace (sym same) ∙ light
+
+  module _ (texts : List (List ℕ)) (bits : HasBits 0 side before texts) (off : list_any (λ t. may_begin_with before (walked side t)) texts ≡ false) where
+    still_bits : HasBits 0 side way texts
+    still_bits = record {
+      each = λ i lt begins. elim (in_space (walked side (get_or texts i [])) begins) [
+        | inl empty ↦ bits.each i lt empty
+        | inr may ↦ absurd (false≢true (sym off ∙ any_from (λ t. may_begin_with before (walked side t)) texts i [] lt may))
+      ];
+    }
+
+    still_off : list_any (λ t. may_begin_with way (walked side t)) texts ≡ false
+    still_off = elim (cases_Bool (list_any (λ t. may_begin_with way (walked side t)) texts)) [
+      | inl some ↦
+          let found = any_some (λ t. may_begin_with way (walked side t)) texts [] some in
+          absurd (false≢true (sym off ∙ any_from (λ t. may_begin_with before (walked side t)) texts found.0 [] found.1
+          (no_more (walked side (get_or texts found.0 [])) found.2)))
+      | inr none' ↦ none'
+    ]
+      where
+        no_more : (t : List ℕ) → may_begin_with way t ≡ true → may_begin_with before t ≡ true
+        no_more [] may = absurd (false≢true may)
+        no_more (a ∷ t) may = elim (or_cases (is_whitespace a) (begins_with_text way (a ∷ t)) may) [
+          | inl light ↦ or_left (is_whitespace a) (begins_with_text before (a ∷ t)) light
+          | inr begins ↦ elim (in_space (a ∷ t) begins) [
+            | inl here ↦ or_right (is_whitespace a) (begins_with_text before (a ∷ t)) here
+            | inr may' ↦ may'
+          ]
+        ]
+
+  pub begun_in_space : HasBegun rules side way 0
+  begun_in_space =
+      let off = none.closed refl in
+      let texts = or_none _ _ off in
+      let others = or_none _ _ texts.1 in
+      record {
+        texts = still_bits (side_texts rules side) none.texts texts.0;
+        spaced = λ _. still_bits (side_spaced rules side) (none.spaced refl) others.0;
+        repeated = λ _. still_bits (side_repeated rules side) (none.repeated refl) others.1;
+        closed = λ _.
+            or_off _ _ (still_off (side_texts rules side) none.texts texts.0)
+            (or_off _ _ (still_off (side_spaced rules side) (none.spaced refl) others.0) (still_off (side_repeated rules side) (none.repeated refl) others.1));
+      }
 
 -- ---- the lengths of the texts whose bits were looked at
 

@@ -15,6 +15,7 @@ pub mod BeginningTexts
 pub mod PieceLengths
 pub mod SeparatorLengths
 pub mod SequencePlaces
+pub mod EndsAhead
 pub mod LongSeparators
 pub mod ItemLemmas
 pub mod NoItems

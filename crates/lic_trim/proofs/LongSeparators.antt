@@ -172,3 +172,7 @@ module _ (rules : LineRules) (side : Side) (way : List ℕ) (at far all : ℕ) (
         within = omega (arith, is.end, is.streak.within);
         past = omega arith;
       }
+
+  -- one ends at that place
+  pub all_here : has_bit all 0 ≡ true
+  all_here = ap (λ n. has_bit n 0) is.bits ∙ ap (λ n. n == 1) (bit_at_ones (is.reach + 2) 0 (omega arith))

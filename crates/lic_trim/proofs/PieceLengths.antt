@@ -1,12 +1,12 @@
 -- How long the pieces are that a way begins with.
-use Rattle.std.proofs.Common.{◌≡◌, ◌≢◌, ℕ, zero, suc, ◌*◌, ◌/◌, ◌%◌, ◌^◌, ◌<◌, ◌≤◌, w64, Bool, true, false, ◌&&◌, ◌||◌, ◌==◌, ◌⊎◌, inl, inr, List, [], ◌∷◌, ◌++◌, length, take, drop, get_or, reverse, refl, sym, ap, ap₂, ◌∙◌, append_assoc, length-append, ⊎_elim, arith}
+use Rattle.std.proofs.Common.{◌≡◌, ℕ, zero, suc, ◌*◌, ◌/◌, ◌%◌, ◌^◌, ◌<◌, ◌≤◌, w64, Bool, true, false, ◌&&◌, ◌||◌, ◌==◌, ◌⊎◌, inl, inr, List, [], ◌∷◌, ◌++◌, length, take, drop, get_or, reverse, refl, sym, ap, ap₂, ◌∙◌, append_assoc, length-append, ⊎_elim, arith}
 use Rattle.std.specs.Prelude.{bytes_eq, bit_or, nat_lt}
 use Rattle.std.specs.List.{list_any}
 use Rattle.std.specs.Char.{is_whitespace}
 use Rattle.std.proofs.Math.Seq.{take-suc, get_or-append_seam}
 use Rattle.std.proofs.lemmas.Bool.{false≢true, and_parts, and_from, or_cases, or_left, or_right, cases_Bool, cases_lt, eqb-true, eq-eqb, lt-ltb, le-ltb, le-leb, lt-leb}
 use Rattle.std.proofs.lemmas.List.{length-reverse, length-take-le, reverse-append, reverse-reverse, take-append-drop, get_or_past}
-use Rattle.std.proofs.lemmas.Nat.Bits.{bit_at-zero, bit_at_above, bit_at_lowest, bit_at-suc, bit_at_set_same, bit_at_set_other}
+use Rattle.std.proofs.lemmas.Nat.Bits.{bit_at-zero, bit_at_above, bit_at-suc, bit_at_set_same, bit_at_set_other}
 use Rattle.std.proofs.lemmas.Slice.Eq.{bytes_eq-Decides}
 pub use Rattle.lic_kind.proofs.BeginningLemmas.{has_bit_or}
 use Rattle.lic_kind.specs.LineRules.{LineRules}
@@ -314,10 +314,7 @@ continues_other way (c ∷ t) d other =
 
 -- ---- bits
 
--- the lowest bit, and the bits above it
-pub has_bit_first : (mask : ℕ) → has_bit mask 0 ≡ (mask % 2 == 1)
-has_bit_first mask = ap (λ n. n == 1) (bit_at_lowest mask)
-
+-- the bits above the lowest
 pub has_bit_half : (mask k : ℕ) → has_bit (mask / 2) k ≡ has_bit mask (suc k)
 has_bit_half mask k = ap (λ n. n == 1) (sym (bit_at-suc mask k))
 
@@ -341,15 +338,6 @@ space_bit (suc (suc n)) =
 pub only_first : (n : ℕ) → has_bit 1 n ≡ true → n ≡ 0
 only_first zero h = refl
 only_first (suc n) h = absurd (false≢true (sym (ap (λ b. b == 1) (bit_at_above 1 1 (suc n) (omega arith) (omega arith))) ∙ h))
-
-pub first_set : (mask : ℕ) → mask % 2 ≡ 1 → has_bit mask 0 ≡ true
-first_set mask odd = has_bit_first mask ∙ eq-eqb (mask % 2) 1 odd
-
-pub first_unset : (mask : ℕ) → mask % 2 ≢ 1 → has_bit mask 0 ≡ false
-first_unset mask even = ⊎_elim
-    (λ yes. absurd (even (eqb-true (mask % 2) 1 (sym (has_bit_first mask) ∙ yes))))
-    (λ no. no)
-    (cases_Bool (has_bit mask 0))
 
 -- the bits one place on
 pub next_without : (mask : ℕ) (more : Bool) (d : ℕ) → has_bit mask 0 ≡ false → has_bit (mask / 2) d ≡ (has_bit mask (suc d) || (has_bit mask 0 && more))

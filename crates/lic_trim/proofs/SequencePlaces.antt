@@ -14,7 +14,7 @@ use Rattle.lic_trim.specs.Walks.{Side, is_walked_piece}
 use Rattle.lic_trim.proofs.PieceLengths.{has_bit_zero, or-false, space_bit, space_lengths, next_with}
 use Rattle.lic_trim.proofs.SeparatorLengths.{bits_of_word}
 use Rattle.lic_trim.proofs.SequenceLemmas.{sequence_ends, sequence_continues}
-use Rattle.lic_trim.proofs.TailSequences.{greatest_stays, greatest_le}
+use Rattle.lic_trim.proofs.TailSequences.{greatest_stays}
 
 -- bit d says whether a sequence ends d places on from here, where all sequences that end before are followed
 pub record AreEnds (p : List ℕ → Bool) (way : List ℕ) (at ends longest : ℕ) : Type 0 where
@@ -170,9 +170,6 @@ module _ (p : List ℕ → Bool) (way : List ℕ) (at ends longest : ℕ) (are :
       (λ none. none)
       (cases_Bool (is_sequence p (take m way)))))
       (cases_Bool (has_bit ends 0))
-
-pub longest_within : (p : List ℕ → Bool) (way : List ℕ) (n : ℕ) → n ≡ longest_front (is_sequence p) way → n ≤ length way
-longest_within p way n is = omega (arith, is, greatest_le (λ m. is_sequence p (take m way)) (length way))
 
 -- where white space is, and no text begins with it, the one end goes on
 pub blank_ends : (rules : LineRules) (side : Side) (way : List ℕ) (at longest : ℕ) → AreEnds (is_walked_piece rules side) way at 1 longest → at < length way

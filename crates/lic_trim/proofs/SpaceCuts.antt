@@ -2,11 +2,11 @@
 use Rattle.std.proofs.Common.{◌≡◌, ◌∙◌, ℕ, ◌+◌, ◌-◌, ◌<◌, ◌≤◌, true, List, refl, sym, ap, ap₂, subst, drop, length, get_or, reverse, append-nil, arith}
 use Rattle.std.specs.Prelude.{slice_index}
 use Rattle.std.specs.Char.{is_whitespace}
-use Rattle.std.proofs.lemmas.List.{length-drop, get_or-drop, get_or-reverse}
+use Rattle.std.proofs.lemmas.List.{length-drop, length-reverse, get_or-drop, get_or-reverse}
 use Rattle.lic_kind.specs.LineRules.{LineRules}
 use Rattle.lic_trim.specs.declared.cut.LineCut.{LineCut}
 use Rattle.lic_trim.specs.Lines.{whole_line, item_length, lead_length, item_after_lead, tail_length, cut_of}
-use Rattle.lic_trim.specs.Spaces.{TakesSpaces}
+use Rattle.lic_trim.specs.Spaces.{AreSpaces, TakesSpaces}
 use Rattle.lic_trim.specs.Texts.{is_sequence, longest_front}
 use Rattle.lic_trim.specs.Walks.{is_walked_piece, walked, Front, End}
 use Rattle.lic_trim.proofs.CutLemmas.{lead_on, tail_on}
@@ -55,3 +55,18 @@ module _ (rules : LineRules) (line rest : List ℕ) (n m : ℕ) (is_rest : rest 
     no_item = refl;
     tail = λ i low high. ap is_whitespace (sym (past i low high)) ∙ white' (length line - 1 - i) (omega (arith, size, end));
   })
+
+-- white space at the end of what is left after the first n characters is at the end of the line
+pub white_end : (line left : List ℕ) (n count : ℕ) → left ≡ drop n line → AreSpaces (walked End left) count
+    → (i : ℕ) → length line - count ≤ i → i < length line → is_whitespace (slice_index line i) ≡ true
+white_end line left n count is_left spaces i low high =
+    let size : length left ≡ length line - n = ap length is_left ∙ length-drop n line in
+    let many : length (walked End left) ≡ length left = length-reverse left in
+    let k = length line - 1 - i in
+    let fits : k < length left = omega (arith, many, spaces.within) in
+    let place : length left - 1 - k ≡ i - n = omega (arith, size) in
+    let whole : n + (i - n) ≡ i = omega (arith, size) in
+    let past : get_or (reverse left) k 0 ≡ slice_index line i =
+    get_or-reverse left k 0 fits ∙ ap (λ j. get_or left j 0) place ∙ ap (λ l. get_or l (i - n) 0) is_left
+    ∙ get_or-drop n line (i - n) 0 ∙ ap (slice_index line) whole in
+    ap is_whitespace (sym past) ∙ spaces.all k (omega arith)

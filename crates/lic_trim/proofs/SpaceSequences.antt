@@ -11,16 +11,17 @@ use Rattle.lic_kind.proofs.KindLemmas.{kind_of-white}
 use Rattle.lic_trim.specs.Texts.{is_sequence, ends_in, greatest, longest_front}
 use Rattle.lic_kind.specs.LineRules.{LineRules}
 use Rattle.lic_trim.specs.Lines.{is_space, is_separator, repeats}
+use Rattle.lic_trim.specs.Spaces.{AreSpaces}
 use Rattle.lic_trim.specs.Walks.{Side, Front, End, walked, is_walked_piece, side_texts, side_spaced, side_repeated, begins_with_text, may_begin_with, may_begin_with_any}
 use Rattle.lic_trim.proofs.PieceEnds.{length_part, slice_at, separator_parts}
 use Rattle.lic_trim.proofs.KindEnds.{space_parts, slice_one}
 use Rattle.lic_trim.proofs.SideEnds.{walked_piece}
 use Rattle.lic_trim.proofs.Stops.{any_some, any_from}
 use Rattle.lic_trim.proofs.SequenceLemmas.{sequence_ends, sequence_continues}
-use Rattle.lic_trim.proofs.TailSequences.{greatest_stays}
+use Rattle.lic_trim.proofs.TailSequences.{greatest_stays, greatest_ge, greatest_le}
 use Rattle.lic_trim.proofs.TextLemmas.{same_truth}
 
-or_none : (a b : Bool) → (a || b) ≡ false → (a ≡ false) × (b ≡ false)
+pub or_none : (a b : Bool) → (a || b) ≡ false → (a ≡ false) × (b ≡ false)
 or_none false b h = (refl, h)
 or_none true b h = cc
 
@@ -63,6 +64,17 @@ space_is_piece rules side c white =
     ∙ or_left ((is_space x || (rules.separators && is_separator x)) || list_any (λ t. bytes_eq (walked side t) x) (side_texts rules side)) _
     (or_left (is_space x || (rules.separators && is_separator x)) _ (or_left (is_space x) _ white))
 
+-- white space is a sequence
+pub spaces_are_sequence : (rules : LineRules) (side : Side) (line : List ℕ) (n : ℕ) → n ≤ length line
+    → ((i : ℕ) → i < n → is_whitespace (slice_index line i) ≡ true) → (m : ℕ) → m ≤ n → is_sequence (is_walked_piece rules side) (take m line) ≡ true
+spaces_are_sequence rules side line n inside white zero le = refl
+spaces_are_sequence rules side line n inside white (suc m) le =
+    let p = is_walked_piece rules side in
+    let next : m + 1 ≡ suc m = omega arith in
+    let one : slice_range line m (suc m) ≡ slice_index line m ∷ [] = ap (slice_range line m) (sym next) ∙ slice_one line m (omega arith) in
+    sequence_continues p line m (suc m) (omega arith) (spaces_are_sequence rules side line n inside white m (omega arith))
+    (ap p one ∙ space_is_piece rules side (slice_index line m) (white m (omega arith)))
+
 greatest_itself : (test : ℕ → Bool) (k : ℕ) → test k ≡ true → greatest test k ≡ k
 greatest_itself test zero h = refl
 greatest_itself test (suc k) h = search h
@@ -77,15 +89,6 @@ module _ (rules : LineRules) (side : Side) (line : List ℕ) (n : ℕ) (inside :
 
   abbrev c : ℕ
   c = slice_index line n
-
-  -- the white space is a sequence
-  is_space_sequence : (m : ℕ) → m ≤ n → is_sequence p (take m line) ≡ true
-  is_space_sequence zero le = refl
-  is_space_sequence (suc m) le =
-      let next : m + 1 ≡ suc m = omega arith in
-      let one : slice_range line m (suc m) ≡ slice_index line m ∷ [] = ap (slice_range line m) (sym next) ∙ slice_one line m (omega arith) in
-      sequence_continues p line m (suc m) (omega arith) (is_space_sequence m (omega arith))
-      (ap p one ∙ space_is_piece rules side (slice_index line m) (white m (omega arith)))
 
   no_texts : list_any (λ t. may_begin_with (drop n line) (walked side t)) (side_texts rules side) ≡ false
   no_texts = (or_none _ _ closed).0
@@ -252,20 +255,22 @@ module _ (rules : LineRules) (side : Side) (line : List ℕ) (n : ℕ) (inside :
   longest_standing =
       let test = λ (m : ℕ). is_sequence p (take m line) in
       sym (greatest_stays test n (length line) (omega arith) (λ m more le. beyond m m (omega arith) more le)
-      ∙ greatest_itself test n (is_space_sequence n (omega arith)))
+      ∙ greatest_itself test n (spaces_are_sequence rules side line n (omega arith) white n (omega arith)))
 
 -- a line of white space alone is a sequence
 module _ (rules : LineRules) (side : Side) (line : List ℕ) (white : (i : ℕ) → i < length line → is_whitespace (slice_index line i) ≡ true) where
   abbrev piece : List ℕ → Bool
   piece = is_walked_piece rules side
 
-  all_spaces : (m : ℕ) → m ≤ length line → is_sequence piece (take m line) ≡ true
-  all_spaces zero le = refl
-  all_spaces (suc m) le =
-      let next : m + 1 ≡ suc m = omega arith in
-      let one : slice_range line m (suc m) ≡ slice_index line m ∷ [] = ap (slice_range line m) (sym next) ∙ slice_one line m (omega arith) in
-      sequence_continues piece line m (suc m) (omega arith) (all_spaces m (omega arith))
-      (ap piece one ∙ space_is_piece rules side (slice_index line m) (white m (omega arith)))
-
   pub longest_of_spaces : length line ≡ longest_front (is_sequence piece) line
-  longest_of_spaces = sym (greatest_itself (λ m. is_sequence piece (take m line)) (length line) (all_spaces (length line) (omega arith)))
+  longest_of_spaces = sym (greatest_itself (λ m. is_sequence piece (take m line)) (length line)
+      (spaces_are_sequence rules side line (length line) (omega arith) white (length line) (omega arith)))
+
+-- the longest sequence has the white space that it begins with
+pub has_spaces : (rules : LineRules) (side : Side) (way : List ℕ) (n m : ℕ) → AreSpaces way n
+    → m ≡ longest_front (is_sequence (is_walked_piece rules side)) way → (n ≤ m) × (m ≤ length way)
+has_spaces rules side way n m spaces is =
+    let test = λ (k : ℕ). is_sequence (is_walked_piece rules side) (take k way) in (
+      omega (arith, is, greatest_ge test (length way) n spaces.within (spaces_are_sequence rules side way n spaces.within spaces.all n (omega arith))),
+      omega (arith, is, greatest_le test (length way)),
+    )

@@ -6,17 +6,17 @@ ghost use Rattle.lic_kind.specs.LineRules.{LineRules, rules_of};
 ghost use Rattle.lic_trim.specs.Beginnings.{HasBegun};
 ghost use Rattle.lic_trim.specs.Lines.{cut_of, is_item_form, item_length, whole_line};
 ghost use Rattle.lic_trim.specs.Texts.{is_sequence, longest_front};
-ghost use Rattle.lic_trim.specs.Spaces.{TakesSpaces};
+ghost use Rattle.lic_trim.specs.Spaces.{AreSpaces, HasSpaces, TakesSpaces};
 ghost use Rattle.lic_trim.specs.Walks.{walked, is_walked_piece};
 
 use crate::ascii_sequences::sequence_by_places;
 use crate::cut::LineCut;
-use crate::item::{is_roman_digit, item_length};
+use crate::item::{is_bullet_sign, is_roman_digit, item_length};
 use crate::sequences::longest_sequence;
 use crate::side::Side;
 use crate::source::{SourceChar, place};
 use crate::space_sequences::begun_texts;
-use lic_kind::Rules;
+use lic_kind::{Kind, Rules, kind_of};
 use std::alloc::{AllocError, Global};
 
 /// The byte at this place of the way.
@@ -44,35 +44,24 @@ pub(crate) fn byte_after(line: &[u8], side: Side, place: usize) -> u8
     }
 }
 
+/// Whether this byte is white space.
+#[inline(always)]
+pub(crate) fn is_white(byte: u8) -> bool
+    ensures { result ≡ is_whitespace byte }
+{
+    kind_of(byte as char) == Kind::Blank
+}
+
 /// How many bytes on the way from a side are white space.
 #[inline(always)]
 fn spaces(side: Side, line: &[u8]) -> usize
-    ensures within { result ≤ length line.now }
-    ensures all { (i : ℕ) → i < result
-        → is_whitespace (slice_index (walked side line.now) i) ≡ true }
-    ensures stop { result < length line.now
-        → is_whitespace (slice_index (walked side line.now) result) ≡ false }
+    ensures { AreSpaces (walked side line.now) result }
 {
     let mut count = 0;
-    while count < line.len() && (byte_at(line, side, count) as char).is_whitespace() {
+    while count < line.len() && is_white(byte_at(line, side, count)) {
         count += 1;
     }
     count
-}
-
-/// Whether three of one same byte are at this place of the way.
-#[inline(always)]
-fn three_alike(side: Side, line: &[u8], place: usize) -> bool
-    requires { place < length line.now }
-    ensures { result ≡ false → place + 2 < length line.now
-        → slice_index (walked side line.now) (place + 1) ≡ slice_index (walked side line.now) place
-        → slice_index (walked side line.now) (place + 2)
-        ≢ slice_index (walked side line.now) place }
-{
-    let byte = byte_at(line, side, place);
-    line.len() - place > 2
-        && byte_at(line, side, place + 1) == byte
-        && byte_at(line, side, place + 2) == byte
 }
 
 /// Which texts of a side may be at this place of the way: text i has bit i, and one of another kind another bit. Nothing is said where
@@ -87,28 +76,24 @@ pub(crate) fn begun_at(rules: &Rules, side: Side, line: &[u8], place: usize) -> 
     begun_texts(rules, side, first, second)
 }
 
-/// How long the longest sequence of pieces is where it is white space alone, as far as the text after that shows.
+/// Whether the longest sequence of pieces is this white space alone, as far as the two bytes after it show.
 #[inline(always)]
-fn space_sequence(rules: &Rules, side: Side, line: &[u8]) -> Option<usize>
-    ensures sequence { IfSome result (λ n. n
+fn is_alone(rules: &Rules, side: Side, line: &[u8], spaces: usize) -> bool
+    requires { AreSpaces (walked side line.now) spaces }
+    ensures { IsTrue result → spaces
         ≡ longest_front (is_sequence (is_walked_piece (rules_of rules.now) side))
-        (walked side line.now)) }
-    ensures white { IfSome result (λ n. (i : ℕ) → i < n
-        → is_whitespace (slice_index (walked side line.now) i) ≡ true) }
-    ensures within { IfSome result (λ n. n ≤ length line.now) }
+        (walked side line.now) }
 {
-    let count = spaces(side, line);
-    if count >= line.len() {
-        return Some(count);
+    if spaces >= line.len() {
+        return true;
     }
-    if three_alike(side, line, count) {
-        return None;
+    if byte_after(line, side, spaces) == byte_at(line, side, spaces) {
+        return false;
     }
-    let begun = begun_at(rules, side, line, count)?;
-    if begun != 0 {
-        return None;
+    match begun_at(rules, side, line, spaces) {
+        Some(begun) => begun == 0,
+        None => false,
     }
-    Some(count)
 }
 
 /// The place of the first white space, or how many bytes there are.
@@ -118,7 +103,7 @@ fn first_space(line: &[u8]) -> usize
     ensures place { result ≡ position_or_len is_whitespace line.now }
 {
     for (place, byte) in line.iter().enumerate() {
-        if (*byte as char).is_whitespace() {
+        if is_white(*byte) {
             return place;
         }
     }
@@ -144,8 +129,11 @@ fn begins_item(byte: u8) -> bool
 fn may_be_item(word: &[u8]) -> bool
     ensures { result ≡ false → is_item_form word.now ≡ false }
 {
+    if word.is_empty() {
+        return false;
+    }
     if word.len() < 2 {
-        return true;
+        return is_bullet_sign(word[0] as char);
     }
     if !ends_item(word[word.len() - 1]) {
         return false;
@@ -184,31 +172,46 @@ fn has_no_item(line: &[u8]) -> bool
     end >= line.len() || !may_be_item(&line[..end])
 }
 
-/// How long the longest sequence of pieces is that is at this side of a line: mostly it is white space alone, or a few texts
-/// and white space. The characters are a buffer for those of the line, whatever they hold.
+/// What is taken at a side of a line.
+#[derive(Clone, Copy)]
+struct Edge {
+    /// How much white space it begins with, on the way from this side.
+    spaces: usize,
+    length: usize,
+}
+
+/// The longest sequence of pieces that is at this side of a line: mostly it is white space alone, or a few texts and white space. The
+/// characters are a buffer for those of the line, whatever they hold.
 #[inline(always)]
-fn sequence_of_ascii(
+fn edge_of_ascii(
     alloc: Global,
     rules: &Rules,
     side: Side,
     line: &[u8],
     characters: &mut Vec<SourceChar>,
-) -> Result<usize, AllocError>
+) -> Result<Edge, AllocError>
     requires ascii { IsAscii line.now }
     requires fits { length line.now < 2 ^ 32 }
-    ensures sequence { IfOk result (λ n. n
+    ensures spaces { IfOk result (λ edge. AreSpaces (walked side line.now) edge.spaces) }
+    ensures sequence { IfOk result (λ edge. edge.length
         ≡ longest_front (is_sequence (is_walked_piece (rules_of rules.now) side))
         (walked side line.now)) }
-    ensures within { IfOk result (λ n. n ≤ length line.now) }
+    ensures order { IfOk result (λ edge. edge.spaces ≤ edge.length) }
+    ensures within { IfOk result (λ edge. edge.length ≤ length line.now) }
 {
-    if let Some(count) = space_sequence(rules, side, line) {
-        return Ok(count);
+    let spaces = spaces(side, line);
+    if is_alone(rules, side, line, spaces) {
+        return Ok(Edge {
+            spaces,
+            length: spaces,
+        });
     }
-    if let Some(count) = sequence_by_places(rules, side, line) {
-        return Ok(count);
+    if let Some(length) = sequence_by_places(rules, side, line, spaces) {
+        return Ok(Edge { spaces, length });
     }
     place(characters, 0, line)?;
-    longest_sequence(alloc, rules, side, characters)
+    let length = longest_sequence(alloc, rules, side, characters)?;
+    Ok(Edge { spaces, length })
 }
 
 /// How long the list item is at the start of a line, whose lead is taken already: mostly there is none. The characters are
@@ -236,17 +239,60 @@ fn item_of_ascii(
 pub fn takes_spaces(rules: &Rules, line: &[u8]) -> bool
     ensures { result ≡ true → TakesSpaces (cut_of (rules_of rules.now) whole_line line.now) line.now }
 {
-    let Some(lead) = space_sequence(rules, Side::Front, line) else {
+    let lead = spaces(Side::Front, line);
+    if !is_alone(rules, Side::Front, line, lead) {
         return false;
-    };
+    }
     let rest = &line[lead..];
     if !has_no_item(rest) {
         return false;
     }
-    let Some(_tail) = space_sequence(rules, Side::End, rest) else {
-        return false;
+    let tail = spaces(Side::End, rest);
+    is_alone(rules, Side::End, rest, tail)
+}
+
+/// What is taken from a line of ASCII, and how much white space it begins and ends with.
+#[derive(Clone, Copy)]
+pub struct AsciiCut {
+    pub cut: LineCut,
+    /// How much white space the lead begins with.
+    pub front: usize,
+    /// How much white space the tail ends with.
+    pub end: usize,
+}
+
+/// What is taken from a whole line of ASCII, with the white space that it begins and ends with. The characters are a buffer for those of
+/// the line, whatever they hold.
+///
+/// The error is that memory ran out.
+#[inline(always)]
+pub fn cut_with_spaces(
+    alloc: Global,
+    rules: &Rules,
+    line: &[u8],
+    characters: &mut Vec<SourceChar>,
+) -> Result<AsciiCut, AllocError>
+    requires ascii { IsAscii line.now }
+    requires fits { length line.now < 2 ^ 32 }
+    ensures cut { IfOk result (λ found. found.cut ≡ cut_of (rules_of rules.now) whole_line line.now) }
+    ensures within { IfOk result (λ found. found.cut.lead + found.cut.item + found.cut.tail ≤ length line.now) }
+    ensures spaces { IfOk result (λ found. HasSpaces found.cut found.front found.end line.now) }
+{
+    let lead = edge_of_ascii(alloc, rules, Side::Front, line, characters)?;
+    let rest = &line[lead.length..];
+    let item = item_of_ascii(rules, rest, characters)?;
+    let left = &rest[item..];
+    let tail = edge_of_ascii(alloc, rules, Side::End, left, characters)?;
+    let cut = LineCut {
+        lead: lead.length,
+        item,
+        tail: tail.length,
     };
-    true
+    Ok(AsciiCut {
+        cut,
+        front: lead.spaces,
+        end: tail.spaces,
+    })
 }
 
 /// What is taken from a whole line of ASCII. The characters are a buffer for those of the line, whatever they hold.
@@ -263,10 +309,6 @@ pub fn cut_of_ascii(
     ensures cut { IfOk result (λ cut. cut ≡ cut_of (rules_of rules.now) whole_line line.now) }
     ensures within { IfOk result (λ cut. cut.lead + cut.item + cut.tail ≤ length line.now) }
 {
-    let lead = sequence_of_ascii(alloc, rules, Side::Front, line, characters)?;
-    let rest = &line[lead..];
-    let item = item_of_ascii(rules, rest, characters)?;
-    let left = &rest[item..];
-    let tail = sequence_of_ascii(alloc, rules, Side::End, left, characters)?;
-    Ok(LineCut { lead, item, tail })
+    let found = cut_with_spaces(alloc, rules, line, characters)?;
+    Ok(found.cut)
 }

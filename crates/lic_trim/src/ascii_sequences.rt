@@ -1,5 +1,5 @@
 //! The longest sequence of pieces at a side of a line of ASCII, from one place where a sequence ends to the next.
-ghost use Rattle.std.specs.Prelude.{◌≡◌, ◌≢◌, ◌+◌, ◌-◌, ◌^◌, ◌<◌, ◌≤◌, ◌&&◌, ◌||◌, ◌==◌, ℕ, suc, true, false, if◌then◌else◌, [], IfSome, IsTrue};
+ghost use Rattle.std.specs.Prelude.{◌≡◌, ◌≢◌, ◌+◌, ◌-◌, ◌^◌, ◌<◌, ◌≤◌, ◌&&◌, ◌||◌, ◌==◌, ℕ, suc, true, false, if◌then◌else◌, [], IfSome, IsTrue, List};
 ghost use Rattle.std.specs.Prelude.{nat_le, nat_lt, length, take, drop, reverse, slice_index, slice_index_or};
 ghost use Rattle.std.specs.Char.{is_whitespace};
 ghost use Rattle.std.specs.List.{list_any};
@@ -7,14 +7,16 @@ ghost use Rattle.lic_kind.specs.LineRules.{texts_of, rules_of};
 ghost use Rattle.lic_trim.specs.Beginnings.{HasBegun, HasBits};
 ghost use Rattle.lic_trim.specs.Leaps.{IsLongStreak, IsLeap};
 ghost use Rattle.lic_trim.specs.PieceLengths.{has_bit, begins_with_length, begins_with_separator, begins_with_spaced, continues, AreLengths};
+ghost use Rattle.lic_trim.specs.Spaces.{AreSpaces};
 ghost use Rattle.lic_trim.specs.Texts.{is_sequence, longest_front};
 ghost use Rattle.lic_trim.specs.Walks.{walked, is_walked_piece, side_texts, side_repeated};
 ghost use Rattle.lic_trim.specs.Walks.{End};
 
-use crate::ascii_cut::{begun_at, byte_after, byte_at};
+use crate::ascii_cut::{begun_at, byte_after, byte_at, is_white};
 use crate::ascii_texts::occurs;
 use crate::sequences::{is_mark, reach, side_spaced, side_texts};
 use crate::side::Side;
+use crate::space_sequences::begun_texts;
 use lic_kind::{RuleKind, Rules, Texts};
 
 /// The longest text whose length is given by a bit, and as many texts as are looked for by bits.
@@ -26,12 +28,12 @@ const LONGEST_SEPARATOR: usize = 16;
 /// The shortest separator.
 const SHORTEST_SEPARATOR: usize = 3;
 
-/// Bit 1 where the character is white space, which is a piece by itself.
+/// Bit 1 where the byte is white space, which is a piece by itself.
 #[inline(always)]
-fn space_length(c: char) -> u64
-    ensures { (n : ℕ) → has_bit result n ≡ (is_whitespace c && (n == 1)) }
+fn space_length(byte: u8) -> u64
+    ensures { (n : ℕ) → has_bit result n ≡ (is_whitespace byte && (n == 1)) }
 {
-    if c.is_whitespace() { 2 } else { 0 }
+    if is_white(byte) { 2 } else { 0 }
 }
 
 /// Adds bit n where this text of n characters comes after this place of the way. Nothing is said where it is very long.
@@ -97,7 +99,7 @@ fn is_space_at(side: Side, line: &[u8], place: usize) -> bool
     if place >= line.len() {
         return false;
     }
-    (byte_at(line, side, place) as char).is_whitespace()
+    is_white(byte_at(line, side, place))
 }
 
 /// Adds bit n where this text and a white space character, n characters in all, come after this place of the way. Nothing
@@ -252,7 +254,7 @@ fn piece_lengths(rules: &Rules, side: Side, line: &[u8], place: usize) -> Option
     requires { place < length line.now }
     ensures { IfSome result (λ mask. AreLengths (rules_of rules.now) side (drop place (walked side line.now)) mask) }
 {
-    let space = space_length(byte_at(line, side, place) as char);
+    let space = space_length(byte_at(line, side, place));
     let separators = separator_lengths(rules, side, line, place)?;
     let begun = begun_at(rules, side, line, place)?;
     if begun == 0 {
@@ -264,41 +266,38 @@ fn piece_lengths(rules: &Rules, side: Side, line: &[u8], place: usize) -> Option
     Some(((space | separators) | texts) | (spaced | repeated))
 }
 
-/// The place where a sequence ends, if one does here by the lowest bit, or else the one before.
-#[inline(always)]
-fn latest(ends: u64, at: usize, before: usize) -> usize
-    ensures { result ≡ (if has_bit ends 0 then at else before) }
-{
-    if ends % 2 == 1 { at } else { before }
-}
-
-/// Where sequences end from the next place on, bit by bit, given where they end from this place of the way on.
+/// Where sequences end from the next place on, bit by bit, given where they end from this place of the way on: one does here.
 #[inline(always)]
 fn next_ends(rules: &Rules, side: Side, line: &[u8], at: usize, ends: u64) -> Option<u64>
-    requires { at < length line.now }
+    requires inside { at < length line.now }
+    requires here { has_bit ends 0 ≡ true }
     ensures { IfSome result (λ next. (d : ℕ) → has_bit next d
         ≡ (has_bit ends (suc d) || (has_bit ends 0
         && (nat_le (suc d) (length (drop at (walked side line.now)))
         && is_walked_piece (rules_of rules.now) side (take (suc d) (drop at (walked side line.now))))))) }
 {
-    if ends % 2 == 0 {
-        return Some(ends / 2);
-    }
     let lengths = piece_lengths(rules, side, line, at)?;
     Some((ends | lengths) / 2)
 }
 
-/// Whether white space is here, and no text begins.
+/// How many places further the first sequence ends, and where sequences end from there on.
 #[inline(always)]
-fn is_blank_at(rules: &Rules, side: Side, line: &[u8], place: usize) -> bool
-    requires { place < length line.now }
-    ensures white { IsTrue result → is_whitespace (slice_index (walked side line.now) place) ≡ true }
-    ensures closed { IsTrue result → HasBegun (rules_of rules.now) side (drop place (walked side line.now)) 0 }
+fn first_end(ends: u64) -> (usize, u64)
+    requires { 0 < ends }
+    ensures here { has_bit result.1 0 ≡ true }
+    ensures rest { (d : ℕ) → has_bit result.1 d ≡ has_bit ends (result.0 + d) }
+    ensures none { (d : ℕ) → d < result.0 → has_bit ends d ≡ false }
 {
-    if !(byte_at(line, side, place) as char).is_whitespace() {
-        return false;
-    }
-    match begun_at(rules, side, line, place) {
+    let step = ends.trailing_zeros();
+    (step as usize, ends >> step)
+}
+
+/// Whether no text of this side begins in white space.
+#[inline(always)]
+fn begins_in_no_space(rules: &Rules, side: Side) -> bool
+    ensures { IsTrue result → (way : List ℕ) → is_whitespace (slice_index way 0) ≡ true → HasBegun (rules_of rules.now) side way 0 }
+{
+    match begun_texts(rules, side, ' ', ' ') {
         Some(begun) => begun == 0,
         None => false,
     }
@@ -327,12 +326,16 @@ fn long_streak(rules: &Rules, side: Side, line: &[u8], at: usize) -> Option<usiz
 }
 
 /// Where a long separator is here, a place near its end, and where sequences end from there on: at as many of its last places as a text
-/// can lead out of it from, and at the place after them.
+/// can lead out of it from, and at the place after them. Nothing is said where a sequence ends further on than here.
 #[inline(always)]
-fn leap(rules: &Rules, side: Side, line: &[u8], at: usize) -> Option<(usize, u64)>
+fn leap(rules: &Rules, side: Side, line: &[u8], at: usize, ends: u64) -> Option<(usize, u64)>
     requires { at < length line.now }
-    ensures { IfSome result (λ next. IsLeap (rules_of rules.now) side (walked side line.now) at next.0 next.1) }
+    ensures one { IfSome result (λ _. ends ≡ 1) }
+    ensures leap { IfSome result (λ next. IsLeap (rules_of rules.now) side (walked side line.now) at next.0 next.1) }
 {
+    if ends != 1 {
+        return None;
+    }
     let streak = long_streak(rules, side, line, at)?;
     let reach = reach(rules, side);
     if reach >= LONGEST {
@@ -344,38 +347,42 @@ fn leap(rules: &Rules, side: Side, line: &[u8], at: usize) -> Option<(usize, u64
     Some((at + (streak - reach - 1), below(reach + 2)))
 }
 
-/// How long the longest sequence of pieces is at this side of a line. Nothing is said where that takes more than looks at the places
-/// where sequences end.
+/// How long the longest sequence of pieces is at this side of a line, which has this much white space there. Nothing is said where that
+/// takes more than looks at the places where sequences end.
 #[inline(always)]
-pub(crate) fn sequence_by_places(rules: &Rules, side: Side, line: &[u8]) -> Option<usize>
-    ensures sequence { IfSome result (λ n. n
+pub(crate) fn sequence_by_places(
+    rules: &Rules,
+    side: Side,
+    line: &[u8],
+    spaces: usize,
+) -> Option<usize>
+    requires { AreSpaces (walked side line.now) spaces }
+    ensures { IfSome result (λ n. n
         ≡ longest_front (is_sequence (is_walked_piece (rules_of rules.now) side))
         (walked side line.now)) }
-    ensures within { IfSome result (λ n. n ≤ length line.now) }
 {
-    let mut at = 0;
-    let mut longest = 0;
+    if !begins_in_no_space(rules, side) {
+        return None;
+    }
+    let mut at = spaces;
     let mut ends = 1u64;
     while at < line.len() {
-        if ends == 0 {
-            return Some(longest);
+        if ends == 1 && is_space_at(side, line, at) {
+            at += 1;
+            continue;
         }
-        if ends == 1 {
-            if is_blank_at(rules, side, line, at) {
-                longest = at;
-                at += 1;
-                continue;
+        if let Some(next) = next_ends(rules, side, line, at, ends) {
+            if next == 0 {
+                return Some(at);
             }
-            if let Some((far, all)) = leap(rules, side, line, at) {
-                at = far;
-                longest = far;
-                ends = all;
-                continue;
-            }
+            let (step, rest) = first_end(next);
+            at += 1 + step;
+            ends = rest;
+        } else {
+            let (far, all) = leap(rules, side, line, at, ends)?;
+            at = far;
+            ends = all;
         }
-        longest = latest(ends, at, longest);
-        ends = next_ends(rules, side, line, at, ends)?;
-        at += 1;
     }
-    Some(latest(ends, line.len(), longest))
+    Some(at)
 }

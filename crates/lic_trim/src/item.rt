@@ -58,7 +58,7 @@ fn is_roman(text: &[SourceChar]) -> bool
     1 <= text.len() && text.len() <= 5 && are_roman_digits(text)
 }
 
-fn is_bullet_sign(c: char) -> bool
+pub(crate) fn is_bullet_sign(c: char) -> bool
     ensures { result ≡ is_bullet_sign c }
 {
     is_dash(c) || is_bullet(c) || c == '+'

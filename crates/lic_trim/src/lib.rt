@@ -14,7 +14,7 @@ mod side;
 mod source;
 mod space_sequences;
 
-pub use ascii_cut::{cut_of_ascii, takes_spaces};
+pub use ascii_cut::{AsciiCut, cut_of_ascii, cut_with_spaces, takes_spaces};
 pub use cut::{LineCut, cut_line};
 pub use line_part::LinePart;
 pub use plain_edges::keeps_all;

@@ -3,14 +3,14 @@ use Rattle.std.specs.Char.{is_whitespace}
 use Rattle.std.proofs.lemmas.List.Sums.{position_or_len_is}
 use Rattle.lic_trim.proofs.ascii_cut.first_space.Goals as goal
 
-pub returns-then-is_whitespace : goal.returns-then-is_whitespace
-returns-then-is_whitespace c =
+pub returns-then-is_white : goal.returns-then-is_white
+returns-then-is_white c =
     let text = c.args.line.now in
     let place = c.loop-place.place in
     record {
       within = omega arith;
       place = sym (position_or_len_is is_whitespace text place 0
-          (omega arith) c.loop-place.invariant (λ lt. sym c.is_whitespace.ensures ∙ c.if-is_whitespace.true));
+          (omega arith) c.loop-place.invariant (λ lt. sym c.is_white.ensures ∙ c.if-is_white.true));
     }
 
 pub returns : goal.returns

@@ -9,7 +9,7 @@ pub loop-count-preserved : goal.loop-count-preserved
 loop-count-preserved c =
     let line = walked c.args.side c.args.line.now in
     let count = c.loop-count.count in
-    let here : is_whitespace (slice_index line count) ≡ true = sym (c.is_whitespace.ensures ∙ ap is_whitespace c.byte_at.ensures) ∙ c.if-is_whitespace.true in
+    let here : is_whitespace (slice_index line count) ≡ true = sym (c.is_white.ensures ∙ ap is_whitespace c.byte_at.ensures) ∙ c.if-is_white.true in
     record {
       within = omega arith;
       all = λ i lt.

@@ -11,4 +11,4 @@ returns-then-place-line c =
     ap is_whitespace (sym (get_or_past line c.args.place 0 (omega (arith, length-walked c.args.side c.args.line.now, c.if-place-line.true))))
 
 pub returns : goal.returns
-returns c = c.is_whitespace.ensures ∙ ap is_whitespace c.byte_at.ensures
+returns c = c.is_white.ensures ∙ ap is_whitespace c.byte_at.ensures
