@@ -30,12 +30,13 @@ mark_classes v fits = map-map (λ d. nat_le 3 d) class_of v ∙ map_same (λ b. 
 
 -- ---- letters
 
-abbrev pub with_quote : ℕ → ℕ → ℕ
-with_quote quote b = if b == quote then 39 else b
+-- the quotes that have the letter of another
+abbrev pub is_other_quote : ℕ → Bool
+is_other_quote b = (b == 34) || (b == 96)
 
 -- the letter as it is computed
 abbrev pub made_letter : ℕ → ℕ
-made_letter b = with_quote 96 (with_quote 34 (to_ascii_lowercase b))
+made_letter b = cond (is_other_quote b) 39 (to_ascii_lowercase b)
 
 -- the letter by the kind
 abbrev kind_letter : Kind → ℕ → ℕ
@@ -70,7 +71,7 @@ abbrev pub is_capital : ℕ → Bool
 is_capital b = ltb ((b + (2 ^ 8 - 65)) % 2 ^ 8) 26
 
 abbrev pub made_small : ℕ → ℕ
-made_small b = cond (is_capital b) (bit_or b 32) b
+made_small b = bit_or b (cond (is_capital b) 32 0)
 
 made_small-is : (b : ℕ) → b < 256 → made_small b ≡ to_ascii_lowercase b
 made_small-is b small = eqb-true _ _ (every_below (λ d. made_small d == to_ascii_lowercase d) 256 refl b small)

@@ -170,6 +170,12 @@ module _ (word mark joined : List Bool) (are : AreCells word mark joined) where
       ∙ last_is (flag_at word k) (flag_at mark k) (flag_at joined k) (flag_at word (suc k)) (flag_at mark (suc k)) (flag_at joined (suc k))
       (are.apart (suc k)) (are.apart k) (are.is_mark (suc k)) (are.after_mark k)
 
+  -- which cells come right after the last of a token
+  pub ended : (k : ℕ) → flag_at (false ∷ lasts (cells_of word mark joined)) k
+      ≡ ((flag_before word k && not (flag_at word k)) || (flag_before mark k && not (flag_at joined k)))
+  ended zero = refl
+  ended (suc k) = ends k
+
 pub length-firsts : (before : Cell) (cells : List Cell) → length (firsts before cells) ≡ length cells
 length-firsts before [] = refl
 length-firsts before (c ∷ cells) = ap suc (length-firsts c cells)

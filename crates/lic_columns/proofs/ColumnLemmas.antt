@@ -105,7 +105,7 @@ close_pair false true false true e p q = refl
 
 -- marks that are kept, and before each a mark that is kept and has the letter of the next
 module _ (letters : List ℕ) (marks kept : List Bool) (are_marks : (n : ℕ) → flag_at kept n ≡ true → flag_at marks n ≡ true) where
-  kept_pair : (n : ℕ) → (flag_at kept n && (flag_before (same_as_next letters marks) n && flag_before kept n))
+  pub kept_pair : (n : ℕ) → (flag_at kept n && (flag_before (same_as_next letters marks) n && flag_before kept n))
       ≡ (flag_at kept n && flag_before (same_as_next letters kept) n)
   kept_pair zero = refl
   kept_pair (suc n) =

@@ -4,7 +4,7 @@ use Rattle.std.proofs.lemmas.Bool.{cases_lt, cases_eq}
 use Rattle.std.proofs.lemmas.List.{get_or_past, ext_get_or, length-append, length_push, get_or_push, get_or_append_left, get_or-append_right, get_or-set_same, get_or-set_other, length-set}
 use Rattle.std.proofs.lemmas.List.FromFn.{get_or-map-range_with_len, length-map-range_with_len}
 use Rattle.std.specs.List.{range_with_len}
-use Rattle.lic_columns.specs.Masks.{flag_at, flag_before, IsMask}
+use Rattle.lic_columns.specs.Masks.{flag_at, flag_before, IsColumn, IsMask}
 use Rattle.lic_columns.specs.Flags.{bits_of, has, flags_in, is_within, cleared}
 use Rattle.lic_letters.proofs.BitLemmas.{has_bit_zero, has_bit_above}
 use Rattle.lic_columns.proofs.BitLemmas.{within_is, within_before, within_after}
@@ -67,17 +67,21 @@ module _ (flags : List Bool) (before here moved k : ℕ) (first : has_bit before
   before_is zero small = lowest ∙ first ∙ ap (λ n. flag_before flags n) (let e : k * 64 ≡ k * 64 + 0 = omega arith in e)
   before_is (suc i) small = rest i small ∙ bits i (omega arith) ∙ ap (λ n. flag_before flags n) (let e : suc (k * 64 + i) ≡ k * 64 + suc i = omega arith in e)
 
+-- the first flag of a column
+pub first_is : (mask k : ℕ) (flags : List Bool) → IsColumn mask flags k → has_bit mask 0 ≡ flag_at flags (k * 64)
+first_is mask k flags is = is.bit 0 (omega arith) ∙ ap (λ n. flag_at flags n) (let e : k * 64 + 0 ≡ k * 64 = omega arith in e)
+
 -- the flags after those of a column
 module _ (flags : List Bool) (here after moved k : ℕ) (bits : (i : ℕ) → i < 64 → has_bit here i ≡ flag_at flags (k * 64 + i))
-    (next : (i : ℕ) → i < 64 → has_bit after i ≡ flag_at flags ((k + 1) * 64 + i))
+    (next : has_bit after 0 ≡ flag_at flags ((k + 1) * 64))
     (highest : has_bit moved 63 ≡ has_bit after 0) (rest : (i : ℕ) → i < 63 → has_bit moved i ≡ has_bit here (suc i)) where
   pub after_is : (i : ℕ) → i < 64 → has_bit moved i ≡ flag_at flags (suc (k * 64 + i))
   after_is i small = elim (cases_lt i 63) [
     | inl low ↦ rest i low ∙ bits (suc i) (omega arith) ∙ ap (λ n. flag_at flags n) (let e : k * 64 + suc i ≡ suc (k * 64 + i) = omega arith in e)
     | inr high ↦
         let last : i ≡ 63 = omega arith in
-        ap (λ j. has_bit moved j) last ∙ highest ∙ next 0 (omega arith)
-        ∙ ap (λ n. flag_at flags n) (let e : (k + 1) * 64 + 0 ≡ suc (k * 64 + i) = omega arith in e)
+        ap (λ j. has_bit moved j) last ∙ highest ∙ next
+        ∙ ap (λ n. flag_at flags n) (let e : (k + 1) * 64 ≡ suc (k * 64 + i) = omega arith in e)
   ]
 
 -- ---- a column more

@@ -10,6 +10,7 @@ pub mod KnownLemmas
 pub mod CellLemmas
 pub mod MarkLemmas
 pub mod ColumnLemmas
+pub mod PlainColumns
 pub mod TextLemmas
 pub mod FirstTokens
 pub mod SpanLemmas

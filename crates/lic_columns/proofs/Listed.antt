@@ -1,5 +1,5 @@
 -- The places of tokens that are listed, column by column.
-use Rattle.std.proofs.Common.{◌≡◌, ℕ, suc, ◌+◌, ◌*◌, ◌≤◌, ◌++◌, Bool, List, length, take, ap, ◌∙◌, arith}
+use Rattle.std.proofs.Common.{◌≡◌, ℕ, ◌+◌, ◌*◌, ◌<◌, ◌≤◌, ◌++◌, ◌∷◌, Bool, false, List, length, take, ap, ◌∙◌, arith}
 use Rattle.std.proofs.lemmas.List.{take_all}
 use Rattle.lic_columns.specs.Cells.{Cell, AreCells, cells_of, firsts, lasts, spans, starts_of, ends_of}
 use Rattle.lic_columns.specs.Cells.{Blank}
@@ -9,7 +9,6 @@ use Rattle.lic_columns.specs.Marks.{joined_marks, kept_in}
 use Rattle.lic_columns.specs.Masks.{IsColumn, EndsBefore}
 use Rattle.lic_columns.specs.Places.{places}
 use Rattle.lic_columns.specs.declared.marks.Carried.{Carried}
-use Rattle.lic_columns.specs.declared.marks.Kept.{Kept}
 use Rattle.lic_columns.proofs.CellLemmas.{length-cells, length-firsts, length-lasts, starts_are, ends_are}
 use Rattle.lic_columns.proofs.PlaceLemmas.{column_places}
 
@@ -17,17 +16,16 @@ use Rattle.lic_columns.proofs.PlaceLemmas.{column_places}
 abbrev pub cells_in : Bool → List ℕ → List ℕ → List Bool → List Bool → List Cell
 cells_in separators bytes letters words marks = cells_of words (kept_in separators bytes marks) (joined_marks letters (kept_in separators bytes marks))
 
--- the tokens of the columns before this one are listed; what is carried on is of this column and those beside it
-pub record AreListed (separators : Bool) (at : ℕ) (bytes letters : List ℕ) (words marks : List Bool) (k : ℕ) (s e : List ℕ) (c : Carried) (b w : ℕ) (h : Kept)
+-- the tokens of the columns before this one are listed; what is carried on is of this column and the one before it
+pub record AreListed (separators : Bool) (at : ℕ) (bytes letters : List ℕ) (words marks : List Bool) (k : ℕ) (s e : List ℕ) (c : Carried) (m b h : ℕ)
     : Type 0 where
   pub cells : AreCells words (kept_in separators bytes marks) (joined_marks letters (kept_in separators bytes marks))
   pub starts : s ≡ places at (take (k * 64) (firsts Blank (cells_in separators bytes letters words marks)))
-  pub ends : e ≡ places (suc at) (take (k * 64) (lasts (cells_in separators bytes letters words marks)))
-  pub carried : AreCarried separators bytes letters marks (k + 1) c
+  pub ends : e ≡ places at (take (k * 64) (false ∷ lasts (cells_in separators bytes letters words marks)))
+  pub carried : AreCarried separators bytes letters marks k c
+  pub mark : IsColumn m marks k
   pub before : EndsBefore b words k
-  pub word : IsColumn w words k
-  pub kept : IsColumn h.kept (kept_in separators bytes marks) k
-  pub joined : IsColumn h.joined (joined_marks letters (kept_in separators bytes marks)) k
+  pub kept : EndsBefore h (kept_in separators bytes marks) k
 
 -- the places of one column more
 pub one_column_more : (new old : List ℕ) (at k here mask : ℕ) (flags : List Bool) → old ≡ places at (take (k * 64) flags) → here ≡ at + k * 64
@@ -42,7 +40,7 @@ module _ (at : ℕ) (words kept joined : List Bool) (are : AreCells words kept j
       ap (places at) (take_all n (firsts Blank (cells_of words kept joined)) (omega (arith, all, length-firsts Blank (cells_of words kept joined), length-cells words kept joined are)))
       ∙ starts_are at (cells_of words kept joined)
 
-  pub ends_listed : (n : ℕ) → length words ≤ n → places (suc at) (take n (lasts (cells_of words kept joined))) ≡ ends_of (spans at (cells_of words kept joined))
+  pub ends_listed : (n : ℕ) → length words < n → places at (take n (false ∷ lasts (cells_of words kept joined))) ≡ ends_of (spans at (cells_of words kept joined))
   ends_listed n all =
-      ap (places (suc at)) (take_all n (lasts (cells_of words kept joined)) (omega (arith, all, length-lasts (cells_of words kept joined), length-cells words kept joined are)))
+      ap (places at) (take_all n (false ∷ lasts (cells_of words kept joined)) (omega (arith, all, length-lasts (cells_of words kept joined), length-cells words kept joined are)))
       ∙ ends_are at (cells_of words kept joined)

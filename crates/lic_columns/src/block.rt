@@ -96,26 +96,16 @@ fn lowered(bytes: u8x64) -> u8x64
     ensures { result ≡ map to_ascii_lowercase bytes }
 {
     let is_capital = (bytes - u8x64::splat(b'A')).simd_lt(u8x64::splat(LETTERS));
-    is_capital.select(bytes | u8x64::splat(SMALL), bytes)
+    bytes | is_capital.select(u8x64::splat(SMALL), u8x64::splat(0))
 }
 
-/// One lane in the place of another.
-#[inline(always)]
-fn replaced(old: u8, new: u8, lanes: u8x64) -> u8x64
-    ensures { result ≡ map (λ b. if b == old then new else b) lanes }
-{
-    lanes
-        .simd_eq(u8x64::splat(old))
-        .select(u8x64::splat(new), lanes)
-}
-
-/// The letter of each byte.
+/// The letter of each byte: all quotes have one.
 #[inline(always)]
 fn letters(bytes: u8x64) -> u8x64
     ensures { result ≡ map letter bytes }
 {
-    let small = lowered(bytes);
-    replaced(b'`', b'\'', replaced(b'"', b'\'', small))
+    let is_quote = bytes.simd_eq(u8x64::splat(b'"')) | bytes.simd_eq(u8x64::splat(b'`'));
+    is_quote.select(u8x64::splat(b'\''), lowered(bytes))
 }
 
 /// What the bytes of a block say.

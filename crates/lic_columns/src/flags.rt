@@ -1,11 +1,11 @@
 //! Lists of flags.
-ghost use Rattle.std.specs.Prelude.{◌≡◌, ℕ, suc, ◌+◌, ◌/◌, ◌*◌, ◌%◌, ◌^◌, ◌≤◌, ◌<◌, [], ◌++◌, length, IfOk};
+ghost use Rattle.std.specs.Prelude.{◌≡◌, ℕ, ◌+◌, ◌/◌, ◌*◌, ◌%◌, ◌^◌, ◌≤◌, ◌<◌, [], ◌++◌, length, IfOk};
 ghost use Rattle.lic_columns.specs.Masks.{flag_at};
 ghost use Rattle.lic_columns.specs.Flags.{bits_of, cleared};
 ghost use Rattle.lic_trim.specs.PieceLengths.{has_bit};
 
 use crate::block::SIZE;
-use crate::mask::{moved_down, without};
+use crate::mask::without;
 use std::alloc::{AllocError, Global};
 use std::marker::Model;
 
@@ -96,15 +96,6 @@ impl Flags {
         } else {
             0
         }
-    }
-
-    /// The flags after each of the 64 places from 64 * k on, as a mask.
-    #[inline(always)]
-    pub fn column_after(&self, k: usize) -> u64
-        requires { k + 1 < 2 ^ 64 }
-        ensures { (i : ℕ) → i < 64 → has_bit result i ≡ flag_at self.now (suc (k * 64 + i)) }
-    {
-        moved_down(self.column(k), self.column(k + 1))
     }
 
     /// Takes the flags of a range away.

@@ -7,8 +7,8 @@ ghost use Rattle.lic_trim.specs.PieceLengths.{has_bit};
 // How many bits a mask has.
 const BITS: usize = 64;
 
-// The number of the highest bit.
-const LAST: u32 = 63;
+/// The number of the highest bit.
+pub const LAST: u32 = 63;
 
 /// The lowest n bits.
 #[inline(always)]

@@ -1,5 +1,5 @@
 //! Where tokens begin and end.
-ghost use Rattle.std.specs.Prelude.{◌≡◌, ℕ, Bool, List, ◌+◌, ◌*◌, ◌^◌, ◌<◌, ◌≤◌, length, OnOk};
+ghost use Rattle.std.specs.Prelude.{◌≡◌, ℕ, Bool, false, List, ◌∷◌, ◌+◌, ◌*◌, ◌^◌, ◌<◌, ◌≤◌, length, OnOk};
 ghost use Rattle.lic_columns.specs.Masks.{IsColumn, EndsBefore};
 ghost use Rattle.lic_columns.specs.Cells.{AreCells, cells_of, firsts, lasts, starts_of, ends_of};
 ghost use Rattle.lic_columns.specs.Cells.{Blank};
@@ -10,7 +10,7 @@ ghost use Rattle.lic_columns.specs.Tokens.{text_spans};
 use crate::block::SIZE;
 use crate::columns::Columns;
 use crate::marks::{Carried, Kept};
-use crate::mask::{but_not, moved_down, moved_up};
+use crate::mask::{but_not, moved_up};
 use crate::places::Places;
 use std::alloc::AllocError;
 
@@ -27,15 +27,15 @@ fn first_places(before: u64, word: u64, marks: &Kept) -> u64
     but_not(word, moved_up(before, word)) | but_not(marks.kept, marks.joined)
 }
 
-/// At which places of a column a token ends.
+/// At which places of a column a token has ended: the place before is its last. Of the words and of the kept marks of the column before
+/// the last place alone has an effect.
 #[inline(always)]
-fn last_places(word: u64, after: u64, marks: &Kept, next: &Kept) -> u64
-    ensures { (words kept joined : List Bool) (k : ℕ) → AreCells words kept joined → IsColumn word words k → IsColumn after words (k + 1)
-        → IsColumn marks.now.kept kept k → IsColumn marks.now.joined joined k → IsColumn next.now.joined joined (k + 1)
-        → IsColumn result (lasts (cells_of words kept joined)) k }
+fn end_places(before: u64, word: u64, kept_before: u64, marks: &Kept) -> u64
+    ensures { (words kept joined : List Bool) (k : ℕ) → AreCells words kept joined → EndsBefore before words k → IsColumn word words k
+        → EndsBefore kept_before kept k → IsColumn marks.now.kept kept k → IsColumn marks.now.joined joined k
+        → IsColumn result (false ∷ lasts (cells_of words kept joined)) k }
 {
-    but_not(word, moved_down(word, after))
-        | but_not(marks.kept, moved_down(marks.joined, next.joined))
+    but_not(moved_up(before, word), word) | but_not(moved_up(kept_before, marks.kept), marks.joined)
 }
 
 /// Lists the places where the tokens of a text begin, and those after the places where they end: each longest streak of bytes of a
@@ -60,19 +60,20 @@ pub fn list_tokens(
     starts.start(bytes.len() / BYTES_OF_A_TOKEN)?;
     ends.start(bytes.len() / BYTES_OF_A_TOKEN)?;
     let (letters, words, marks) = (columns.letters(), columns.word(), columns.mark());
-    let mut carried = Carried::start(separators, bytes, letters, marks);
-    let mut here = carried.next(separators, bytes, letters, marks, 0);
-    let mut word = words.column(0);
+    let mut carried = Carried::start();
+    let mut mark = marks.column(0);
     let mut before = 0;
-    for k in 0..words.count() {
-        let next = carried.next(separators, bytes, letters, marks, k + 1);
-        let after = words.column(k + 1);
+    let mut kept = 0;
+    for k in 0..bytes.len() / SIZE + 1 {
+        let after = marks.column(k + 1);
+        let here = carried.next(separators, bytes, letters, marks, mark, after, k);
+        let word = words.column(k);
         let place = at + (k * SIZE) as u32;
         starts.put(place, first_places(before, word, &here))?;
-        ends.put(place + 1, last_places(word, after, &here, &next))?;
+        ends.put(place, end_places(before, word, kept, &here))?;
+        mark = after;
         before = word;
-        word = after;
-        here = next;
+        kept = here.kept;
     }
     Ok(())
 }

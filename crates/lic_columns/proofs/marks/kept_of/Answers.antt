@@ -13,7 +13,7 @@ returns-else-separators c = λ flags marks k ends is next mark_is.
 pub returns-then-separators : goal.returns-then-separators
 returns-then-separators c = λ flags marks k ends is next mark_is.
     let up = before_is flags c.args.before c.args.middle c.moved_up.result k ends.last is.bit c.moved_up.ensures.first c.moved_up.ensures.rest in
-    let down = after_is flags c.args.middle c.args.after c.moved_down.result k is.bit next.bit c.moved_down.ensures.last c.moved_down.ensures.rest in
+    let down = after_is flags c.args.middle c.args.after c.moved_down.result k is.bit next c.moved_down.ensures.last c.moved_down.ensures.rest in
     let beside = bit_or c.moved_up.result c.moved_down.result in
     subst (λ b. IsColumn c.but_not.result (if b then kept_by flags marks else marks) k) (sym c.if-separators.true) (record {
       bit = λ i small.

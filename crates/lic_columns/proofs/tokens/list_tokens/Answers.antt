@@ -1,4 +1,4 @@
-use Rattle.std.proofs.Common.{◌≡◌, ℕ, suc, ◌+◌, ◌*◌, ◌≤◌, ◌++◌, length, refl, ap, ◌∙◌, arith, rules}
+use Rattle.std.proofs.Common.{◌≡◌, ℕ, ◌+◌, ◌*◌, ◌≤◌, ◌++◌, ◌∷◌, false, length, refl, ap, ◌∙◌, arith, rules}
 use Rattle.lic_columns.specs.Cells.{cells_of, firsts, lasts, spans, starts_of, ends_of}
 use Rattle.lic_columns.specs.Cells.{Blank}
 use Rattle.lic_columns.specs.Flags.{bits_of}
@@ -18,11 +18,10 @@ loop-k-init c = record {
       c.letters-letters.result.now c.word-words.ensures c.mark-marks.ensures c.letters-letters.ensures;
   starts = c.start.ensures;
   ends = c.start-2.ensures;
-  carried = c.next-here.ensures.carried;
+  carried = c.start-carried.ensures c.args.separators c.args.bytes.now c.letters-letters.result.now c.mark-marks.result.now;
+  mark = record { bit = c.column-mark.ensures };
   before = record { last = has_bit_zero 63 };
-  word = record { bit = c.column-word.ensures };
-  kept = c.next-here.ensures.kept;
-  joined = c.next-here.ensures.joined;
+  kept = record { last = has_bit_zero 63 };
 }
 
 pub loop-k-preserved : goal.loop-k-preserved
@@ -34,22 +33,22 @@ loop-k-preserved c =
     let at : ℕ = c.args.at in
     let k : ℕ = c.loop-k.k in
     let cells = cells_of words kept joined in
-    let next : IsColumn c.column-after.result words (k + 1) = record { bit = c.column-after.ensures } in
-    let first = c.first_places.ensures words kept joined k is.cells is.before is.word is.kept is.joined in
-    let last = c.last_places.ensures words kept joined k is.cells is.word next is.kept is.joined c.next-next.ensures.joined in
-    let bounded : k * 64 ≤ length cells = omega (arith, length-cells words kept joined is.cells, c.count-k-end.ensures, c.loop-k-test.true) in
-    let here : at + k * 64 + 1 ≡ suc at + k * 64 = omega arith in
-    let start : c.put.new.self ≡ c.loop-k.starts ++ places (at + k * 64) (bits_of 64 c.first_places.result) = search rules in
-    let end : c.put-in-loop-k.new.self ≡ c.loop-k.ends ++ places (at + k * 64 + 1) (bits_of 64 c.last_places.result) = search rules in
+    let here = c.next-here.ensures in
+    let word : IsColumn c.column-word.result words k = record { bit = c.column-word.ensures } in
+    let first = c.first_places.ensures words kept joined k is.cells is.before word here.kept here.joined in
+    let end = c.end_places.ensures words kept joined k is.cells is.before word is.kept here.kept here.joined in
+    let long : length words ≡ length c.args.bytes.now = ap length c.word-words.ensures ∙ c.requires.text.whole.word in
+    let bounded : k * 64 ≤ length cells = omega (arith, length-cells words kept joined is.cells, long, c.loop-k-test.true) in
+    let start_more : c.put.new.self ≡ c.loop-k.starts ++ places (at + k * 64) (bits_of 64 c.first_places.result) = search rules in
+    let end_more : c.put-in-loop-k.new.self ≡ c.loop-k.ends ++ places (at + k * 64) (bits_of 64 c.end_places.result) = search rules in
     record {
       cells = is.cells;
-      starts = one_column_more _ _ at k (at + k * 64) c.first_places.result (firsts Blank cells) is.starts refl start (omega (arith, bounded, length-firsts Blank cells)) first;
-      ends = one_column_more _ _ (suc at) k (at + k * 64 + 1) c.last_places.result (lasts cells) is.ends here end (omega (arith, bounded, length-lasts cells)) last;
-      carried = c.next-next.ensures.carried;
-      before = ends_before c.loop-k.word k words is.word;
-      word = next;
-      kept = c.next-next.ensures.kept;
-      joined = c.next-next.ensures.joined;
+      starts = one_column_more _ _ at k (at + k * 64) c.first_places.result (firsts Blank cells) is.starts refl start_more (omega (arith, bounded, length-firsts Blank cells)) first;
+      ends = one_column_more _ _ at k (at + k * 64) c.end_places.result (false ∷ lasts cells) is.ends refl end_more (omega (arith, bounded, length-lasts cells)) end;
+      carried = here.carried;
+      mark = record { bit = c.column-after.ensures };
+      before = ends_before c.column-word.result k words word;
+      kept = ends_before c.next-here.result.kept k kept here.kept;
     }
 
 pub returns-clause-starts : goal.returns-clause-starts
@@ -60,7 +59,8 @@ returns-clause-starts c =
     let joined = joined_marks c.letters-letters.result.now kept in
     let at : ℕ = c.args.at in
     let k : ℕ = c.loop-k.k in
-    is.starts ∙ starts_listed at words kept joined is.cells (k * 64) (omega (arith, c.count-k-end.ensures, c.loop-k-test.false))
+    let long : length words ≡ length c.args.bytes.now = ap length c.word-words.ensures ∙ c.requires.text.whole.word in
+    is.starts ∙ starts_listed at words kept joined is.cells (k * 64) (omega (arith, long, c.loop-k-test.false))
     ∙ ap (λ l. starts_of (spans at l))
     (text_is (length c.args.bytes.now) c.args.columns.now c.requires.text c.args.separators c.args.bytes.now words c.mark-marks.result.now
     c.letters-letters.result.now c.word-words.ensures c.mark-marks.ensures c.letters-letters.ensures)
@@ -73,7 +73,8 @@ returns-clause-ends c =
     let joined = joined_marks c.letters-letters.result.now kept in
     let at : ℕ = c.args.at in
     let k : ℕ = c.loop-k.k in
-    is.ends ∙ ends_listed at words kept joined is.cells (k * 64) (omega (arith, c.count-k-end.ensures, c.loop-k-test.false))
+    let long : length words ≡ length c.args.bytes.now = ap length c.word-words.ensures ∙ c.requires.text.whole.word in
+    is.ends ∙ ends_listed at words kept joined is.cells (k * 64) (omega (arith, long, c.loop-k-test.false))
     ∙ ap (λ l. ends_of (spans at l))
     (text_is (length c.args.bytes.now) c.args.columns.now c.requires.text c.args.separators c.args.bytes.now words c.mark-marks.result.now
     c.letters-letters.result.now c.word-words.ensures c.mark-marks.ensures c.letters-letters.ensures)
