@@ -1,7 +1,6 @@
-pub mod FedLemmas
 mod DoneLemmas
 mod ReportLemmas
-mod Refusals
+mod InputLemmas
 mod RunLemmas
 mod OuterLemmas
 mod CheckLemmas

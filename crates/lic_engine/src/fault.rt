@@ -1,9 +1,12 @@
 //! Why a scan stops.
 
 ghost use Rattle.std.specs.Prelude.{◌≡◌};
+ghost use Rattle.lic_norm.specs.declared.fault.FeedFault.{FeedFault};
+ghost use Rattle.lic_norm.specs.declared.fault.TextFault.{TextFault};
+ghost use Rattle.lic_engine.specs.declared.fault.RunFault.{RunFault};
 ghost use Rattle.lic_engine.specs.declared.fault.RunFault.TheVariants.{Write, Memory};
 
-use lic_norm::TextFault;
+use lic_norm::{FeedFault, TextFault};
 use lic_stream::WriteFailed;
 use std::alloc::AllocError;
 use thiserror::Error;
@@ -30,6 +33,18 @@ impl From<AllocError> for RunFault {
 
     fn from(_error: AllocError) -> RunFault {
         RunFault::Memory
+    }
+}
+
+impl From<FeedFault> for RunFault {
+    ghost from_gives = { λ from fault. (from ≡ FeedFault.Read → fault ≡ RunFault.Read)
+        × ((refusal : TextFault) → from ≡ FeedFault.Text refusal → fault ≡ RunFault.Text refusal) };
+
+    fn from(fault: FeedFault) -> RunFault {
+        match fault {
+            FeedFault::Text(refusal) => RunFault::Text(refusal),
+            FeedFault::Read => RunFault::Read,
+        }
     }
 }
 

@@ -13,8 +13,6 @@ use std::alloc::Global;
 pub struct Memory {
     alloc: Global,
     text: Option<Text>,
-    /// What one call reads.
-    pub(crate) chunk: Vec<u8>,
     /// Lines of tokens that are gathered.
     pub(crate) lines: LineBuffer,
 }
@@ -25,7 +23,6 @@ impl Memory {
         Memory {
             alloc,
             text: None,
-            chunk: Vec::new(alloc),
             lines: LineBuffer::new(alloc),
         }
     }

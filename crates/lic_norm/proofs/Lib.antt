@@ -2,6 +2,7 @@ pub mod AnyBytes
 pub mod ValidPrefixes
 pub mod FrontChars
 pub mod Refused
+pub mod FromInput
 pub mod LineCuts
 pub mod FirstLines
 pub mod NextChars

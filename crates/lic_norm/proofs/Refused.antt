@@ -22,6 +22,13 @@ pub refused_unless_memory : (bytes : List ℕ) (fault : TextFault) → max_bytes
 refused_unless_memory bytes TooLong long not_memory = refused bytes long
 refused_unless_memory bytes Memory long not_memory = absurd (not_memory refl)
 
+-- what is accepted is not too long
+pub accepted_short : (bytes : List ℕ) → refusal_of bytes ≡ None → length bytes ≤ max_bytes
+accepted_short bytes is = elim (cases_lt max_bytes (length bytes)) [
+  | inl long ↦ absurd (let some : None ≡ Some TooLong = sym is ∙ refused bytes long in cc)
+  | inr short ↦ short
+]
+
 -- what begins with a refused input is refused as it is
 pub refused_longer : (front rest : List ℕ) (fault : TextFault) → refusal_of front ≡ Some fault → refusal_of (front ++ rest) ≡ Some fault
 refused_longer front rest fault is = elim (cases_lt max_bytes (length front)) [

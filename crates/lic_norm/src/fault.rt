@@ -2,7 +2,12 @@
 
 ghost use Rattle.std.specs.Prelude.{◌≡◌};
 ghost use Rattle.lic_norm.specs.declared.fault.TextFault.TheVariants.{Memory};
+ghost use Rattle.lic_norm.specs.declared.fault.FeedFault.TheVariants.{Text};
+ghost use Rattle.lic_norm.specs.declared.fault.FeedFault.{FeedFault};
+ghost use Rattle.lic_norm.specs.declared.fault.TextFault.{TextFault};
+ghost use Rattle.lic_stream.specs.declared.transfer.ReadFault.{ReadFault};
 
+use lic_stream::ReadFault;
 use std::alloc::AllocError;
 use thiserror::Error;
 
@@ -22,5 +27,36 @@ impl From<AllocError> for TextFault {
 
     fn from(_: AllocError) -> TextFault {
         TextFault::Memory
+    }
+}
+
+/// Why an input could not be read to its end.
+#[derive(Clone, Copy, Debug, PartialEq, Eq, Error)]
+pub enum FeedFault {
+    /// The input is refused.
+    #[error("{0}")]
+    Text(TextFault),
+    /// The reader failed.
+    #[error("cannot be read")]
+    Read,
+}
+
+impl From<AllocError> for FeedFault {
+    ghost from_gives = { λ _ fault. fault ≡ Text Memory };
+
+    fn from(_: AllocError) -> FeedFault {
+        FeedFault::Text(TextFault::Memory)
+    }
+}
+
+impl From<ReadFault> for FeedFault {
+    ghost from_gives = { λ from fault. (from ≡ ReadFault.Read → fault ≡ FeedFault.Read)
+        × (from ≡ ReadFault.Memory → fault ≡ FeedFault.Text TextFault.Memory) };
+
+    fn from(fault: ReadFault) -> FeedFault {
+        match fault {
+            ReadFault::Read => FeedFault::Read,
+            ReadFault::Memory => FeedFault::Text(TextFault::Memory),
+        }
     }
 }

@@ -1,20 +1,23 @@
 //! An input that comes in pieces.
 
-ghost use Rattle.std.specs.Prelude.{◌≡◌, ◌≢◌, ◌<◌, ◌≤◌, ◌+◌, ◌++◌, ℕ, [], List, length, slice_index_or, IfOk, IfErr, OnOk, Some, None};
+ghost use Rattle.std.specs.Prelude.{◌≡◌, ◌≢◌, ◌<◌, ◌≤◌, ◌+◌, ◌++◌, ℕ, [], List, length, slice_index_or, IfOk, IfErr, IsErrOf, OnOk, Some, None};
+ghost use Rattle.std.specs.Io.KnownBytes.{Consumes, IsAtEnd};
 ghost use Rattle.std.specs.List.{flat_map};
 ghost use Rattle.lic_kind.specs.LineRules.{rules_of};
-ghost use Rattle.lic_norm.specs.Refusal.{refusal_of};
+ghost use Rattle.lic_norm.specs.Refusal.{IsRefusal, max_bytes, refusal_of};
 ghost use Rattle.lic_norm.specs.Spans.{AreSpans};
 ghost use Rattle.lic_tokens.specs.Tokens.{AreTokenTexts};
 ghost use Rattle.lic_norm.specs.Tokens.{tokens_of};
+ghost use Rattle.lic_stream.specs.Stream.{one_more};
 
-use crate::fault::TextFault;
+use crate::fault::{FeedFault, TextFault};
 use crate::reader::line_tokens::LineBuffers;
 use crate::reader::{MAX_KEPT, Reader};
 use crate::refusal::MAX_BYTES;
 use crate::text::Text;
 use crate::words::Words;
 use lic_lines::Rules;
+use lic_stream::Source;
 use lic_tokens::{Token, TokenList};
 use std::alloc::Global;
 use std::marker::Model;
@@ -123,6 +126,67 @@ impl<'w> Feeder<'w> {
             self.refused = Some(fault);
         }
         fed
+    }
+
+    /// Takes what one call of an input reads. Gives how many bytes these are: 0 only at the end.
+    fn feed_from<R: Source>(&mut self, input: &mut R) -> Result<usize, FeedFault>
+        requires { self.old.refused ≡ None }
+        ensures fed { IfOk result (λ n. (bytes : List ℕ) × Consumes (R.left input.old) (R.left input.new) bytes
+            × (n ≡ length bytes) × (self.new.bytes ≡ self.old.bytes ++ bytes)) }
+        ensures accepted { OnOk result (refusal_of self.new.bytes ≡ None) }
+        ensures end { IfOk result (λ n. n ≡ 0 → IsAtEnd (R.left input.new)) }
+        ensures open { OnOk result (self.new.refused ≡ None) }
+        ensures stays { (fault : _) → IsErrOf result (FeedFault.Text fault) → self.new.refused ≡ Some fault }
+        ensures refused { (fault : _) → IsErrOf result (FeedFault.Text fault)
+            → (bytes : List ℕ) × Consumes (R.left input.old) (R.left input.new) bytes
+            × (length (self.old.bytes ++ bytes) ≤ max_bytes + 1) × IsRefusal fault (self.old.bytes ++ bytes) }
+        ensures read { IsErrOf result FeedFault.Read → (self.new.refused ≡ None) × (self.new.bytes ≡ self.old.bytes) }
+        ensures none { IsErrOf result FeedFault.Read → Consumes (R.left input.old) (R.left input.new) [] }
+        ensures sound { OnOk result (R.failed input.new ≡ R.failed input.old) }
+        ensures failed { IsErrOf result FeedFault.Read → R.failed input.new ≡ one_more (R.failed input.old) }
+        ensures text { (fault : _) → IsErrOf result (FeedFault.Text fault) → R.failed input.new ≡ R.failed input.old }
+        ensures words { self.new.words ≡ self.old.words }
+        ensures rules { self.new.rules ≡ self.old.rules }
+    {
+        let fed = self.reader.feed_from(input);
+        if let Err(FeedFault::Text(refusal)) = fed {
+            self.refused = Some(refusal);
+        }
+        fed
+    }
+
+    /// Takes all that is left of an input: its bytes are read straight into the source, and its lines taken as they end. Of an input
+    /// that is too long one byte too many is read, and no more. A failed call is not tried again.
+    ///
+    /// # Errors
+    ///
+    /// `Text` with the refusal of all that was fed, and at once after a refusal; `Read` if a call failed: what came before it is fed.
+    pub fn read_to_end<R: Source>(&mut self, input: &mut R) -> Result<(), FeedFault>
+        ensures fed { OnOk result ((bytes : List ℕ) × Consumes (R.left input.old) (R.left input.new) bytes
+            × IsAtEnd (R.left input.new) × (self.new.bytes ≡ self.old.bytes ++ bytes)) }
+        ensures accepted { OnOk result (refusal_of self.new.bytes ≡ None) }
+        ensures open { OnOk result (self.new.refused ≡ None) }
+        ensures stays { (fault : _) → IsErrOf result (FeedFault.Text fault) → self.new.refused ≡ Some fault }
+        ensures refused { (fault : _) → IsErrOf result (FeedFault.Text fault) → self.old.refused ≡ None
+            → (bytes : List ℕ) × Consumes (R.left input.old) (R.left input.new) bytes
+            × IsRefusal fault (self.old.bytes ++ bytes) }
+        ensures again { (fault : _) → self.old.refused ≡ Some fault
+            → (result ≡ Err (FeedFault.Text fault)) × (self.new ≡ self.old) × (input.new ≡ input.old) }
+        ensures read { IsErrOf result FeedFault.Read → (self.new.refused ≡ None)
+            × ((bytes : List ℕ) × Consumes (R.left input.old) (R.left input.new) bytes × (self.new.bytes ≡ self.old.bytes ++ bytes)) }
+        ensures most { self.old.refused ≡ None → (bytes : List ℕ) × Consumes (R.left input.old) (R.left input.new) bytes
+            × (length (self.old.bytes ++ bytes) ≤ max_bytes + 1) }
+        ensures sound { OnOk result (R.failed input.new ≡ R.failed input.old) }
+        ensures failed { IsErrOf result FeedFault.Read → R.failed input.new ≡ one_more (R.failed input.old) }
+        ensures text { (fault : _) → IsErrOf result (FeedFault.Text fault) → R.failed input.new ≡ R.failed input.old }
+        ensures words { self.new.words ≡ self.old.words }
+        ensures rules { self.new.rules ≡ self.old.rules }
+    {
+        if let Some(fault) = self.refused {
+            return Err(FeedFault::Text(fault));
+        }
+        while self.feed_from(input)? > 0 {}
+        Ok(())
     }
 
     /// How many of the first tokens are settled, whatever comes: all but the last 12 or so of the lines that have ended. 0 after

@@ -9,7 +9,7 @@ mod refusal;
 mod text;
 mod words;
 
-pub use fault::TextFault;
+pub use fault::{FeedFault, TextFault};
 pub use feeder::{Feeder, read_pieces};
 pub use lic_tokens::{Rewriting, Span, Token, TokenList, utf8_text};
 pub use reader::line_tokens::{LineBuffers, take_ascii, take_part};

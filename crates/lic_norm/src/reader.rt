@@ -1,29 +1,32 @@
 //! Reads an input by lines, as its bytes come.
-ghost use Rattle.std.specs.Prelude.{◌≡◌, ◌≢◌, ◌++◌, ◌<◌, ◌≤◌, ◌^◌, [], false, All, IfOk, IfErr, IsTrue, OnOk, Some, length, take, drop, slice_range};
+ghost use Rattle.std.specs.Prelude.{◌≡◌, ◌≢◌, ◌+◌, ◌++◌, ◌<◌, ◌≤◌, ◌^◌, ℕ, List, [], false, All, IfOk, IfErr, IsErrOf, IsTrue, OnOk, Some, length, take, drop, slice_range};
+ghost use Rattle.std.specs.Io.KnownBytes.{Consumes, IsAtEnd};
 ghost use Rattle.lic_kind.specs.LineRules.{rules_of};
 ghost use Rattle.lic_norm.specs.LineEnds.{IsFirstLine};
 ghost use Rattle.lic_tokens.specs.Taking.{HasTaken, listed_by, phrases_of};
 ghost use Rattle.lic_norm.specs.Reading.{HasRead, HasReadLines};
-ghost use Rattle.lic_norm.specs.Refusal.{max_bytes, refusal_of};
+ghost use Rattle.lic_norm.specs.Refusal.{IsRefusal, max_bytes, refusal_of};
+ghost use Rattle.lic_stream.specs.Stream.{one_more};
 ghost use Rattle.lic_norm.specs.Tokens.{first_tokens_of, tokens_of};
 
 pub(crate) mod characters;
 pub(crate) mod line_tokens;
 pub(crate) mod lines;
 
-use crate::fault::TextFault;
+use crate::fault::{FeedFault, TextFault};
 use crate::reader::line_tokens::{LineBuffers, take_any_line, take_ascii, take_front};
 use crate::reader::lines::{MAX_TOGETHER, line_end, lines_end};
 use crate::refusal::MAX_BYTES;
 use crate::words::Words;
 use lic_lines::Rules;
 use lic_phrases::laws::spellings_are_token_texts;
+use lic_stream::{Source, pull_into};
 use lic_tokens::{Rewriting, TokenList};
 use memchr::memrchr;
 use std::alloc::{AllocError, Global};
 
 /// Fewer bytes than these are read in less time by their characters than 64 at once.
-const FEW: usize = 24;
+const FEW: usize = 8;
 
 /// The memory of an input that has more bytes is not used for the next one.
 pub(crate) const MAX_KEPT: usize = 1_048_576;
@@ -233,6 +236,23 @@ impl<'w> Reader<'w> {
         Ok(())
     }
 
+    /// Takes the lines that have ended, where the bytes from `from` on are new.
+    fn take_new(&mut self, from: usize) -> Result<(), AllocError>
+        requires read { HasRead self.old }
+        requires order { self.old.line_start ≤ from }
+        requires within { from ≤ length self.old.source.items }
+        requires fits { length self.old.source.items < 2 ^ 32 }
+        requires searched { All (λ b. b ≢ 0x0A)
+            (slice_range self.old.source.items self.old.line_start from) }
+        ensures read { OnOk result (HasReadLines self.new) }
+        ensures source { self.new.source.items ≡ self.old.source.items }
+        ensures words { phrases_of self.new.rewriting ≡ phrases_of self.old.rewriting }
+        ensures rules { self.new.rules.now ≡ self.old.rules.now }
+    {
+        self.rewriting.reserve(self.source.len() - from)?;
+        self.take_lines(from)
+    }
+
     /// Takes the next bytes, and the lines that have ended then.
     pub(crate) fn feed(&mut self, bytes: &[u8]) -> Result<(), TextFault>
         requires read { HasReadLines self.old }
@@ -252,9 +272,39 @@ impl<'w> Reader<'w> {
             return Err(TextFault::TooLong);
         }
         self.source.extend_from_slice(bytes)?;
-        self.rewriting.reserve(bytes.len())?;
-        self.take_lines(searched)?;
+        self.take_new(searched)?;
         Ok(())
+    }
+
+    /// Takes what one call of an input reads, and the lines that have ended then. Gives how many bytes these are: 0 only at the end.
+    pub(crate) fn feed_from<R: Source>(&mut self, input: &mut R) -> Result<usize, FeedFault>
+        requires read { HasReadLines self.old }
+        requires short { length self.old.source.items ≤ max_bytes }
+        ensures read { OnOk result (HasReadLines self.new) }
+        ensures source { IfOk result (λ n. (bytes : List ℕ) × Consumes (R.left input.old) (R.left input.new) bytes
+            × (n ≡ length bytes) × (self.new.source.items ≡ self.old.source.items ++ bytes)) }
+        ensures short { OnOk result (length self.new.source.items ≤ max_bytes) }
+        ensures end { IfOk result (λ n. n ≡ 0 → IsAtEnd (R.left input.new)) }
+        ensures open { IsErrOf result FeedFault.Read
+            → HasReadLines self.new × (self.new.source.items ≡ self.old.source.items) }
+        ensures refused { (fault : _) → IsErrOf result (FeedFault.Text fault)
+            → (bytes : List ℕ) × Consumes (R.left input.old) (R.left input.new) bytes
+            × (length (self.old.source.items ++ bytes) ≤ max_bytes + 1)
+            × IsRefusal fault (self.old.source.items ++ bytes) }
+        ensures none { IsErrOf result FeedFault.Read → Consumes (R.left input.old) (R.left input.new) [] }
+        ensures sound { OnOk result (R.failed input.new ≡ R.failed input.old) }
+        ensures failed { IsErrOf result FeedFault.Read → R.failed input.new ≡ one_more (R.failed input.old) }
+        ensures text { (fault : _) → IsErrOf result (FeedFault.Text fault) → R.failed input.new ≡ R.failed input.old }
+        ensures words { phrases_of self.new.rewriting ≡ phrases_of self.old.rewriting }
+        ensures rules { self.new.rules.now ≡ self.old.rules.now }
+    {
+        let searched = self.source.len();
+        let count = pull_into(input, &mut self.source, MAX_BYTES + 1 - searched)?;
+        if self.source.len() > MAX_BYTES {
+            return Err(FeedFault::Text(TextFault::TooLong));
+        }
+        self.take_new(searched)?;
+        Ok(count)
     }
 
     /// The tokens that are settled.

@@ -5,4 +5,4 @@ mod stream;
 mod transfer;
 
 pub use stream::{Counted, Sink, Source};
-pub use transfer::{ReadFault, WriteFailed, put_all, put_gathered, read_up_to};
+pub use transfer::{ReadFault, WriteFailed, pull_into, put_all, put_gathered, read_up_to};

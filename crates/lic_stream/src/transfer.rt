@@ -1,11 +1,12 @@
 //! Whole inputs and whole pieces, in as many calls as they take; lines gathered before they are written.
 
-ghost use Rattle.std.specs.Prelude.{◌≡◌, ◌++◌, ◌<◌, ◌≤◌, ℕ, List, length, IfOk, OnOk, OnErr, IsErrOf};
+ghost use Rattle.std.specs.Prelude.{◌≡◌, ◌++◌, ◌<◌, ◌≤◌, ℕ, [], List, length, IfOk, OnOk, OnErr, IsErrOf};
 ghost use Rattle.std.specs.Io.KnownBytes.{Consumes, Appends, IsAtEnd};
 ghost use Rattle.lic_stream.specs.Stream.{one_more, BeginsWith, ReadsUpTo};
+ghost use Rattle.lic_stream.specs.declared.transfer.ReadFault.TheVariants.{Memory};
 
 use crate::stream::{Sink, Source};
-use std::alloc::Global;
+use std::alloc::{AllocError, Global};
 use thiserror::Error;
 
 /// How many bytes are asked for in one call.
@@ -18,6 +19,47 @@ pub enum ReadFault {
     Read,
     #[error("out of memory")]
     Memory,
+}
+
+impl From<AllocError> for ReadFault {
+    ghost from_gives = { λ _ fault. fault ≡ Memory };
+
+    fn from(_error: AllocError) -> ReadFault {
+        ReadFault::Memory
+    }
+}
+
+/// Adds what one call reads, at most `most` bytes, and gives how many bytes these are: 0 only at the end, or where none are asked for.
+///
+/// A failed call is not tried again.
+pub fn pull_into<R: Source>(
+    input: &mut R,
+    bytes: &mut Vec<u8>,
+    most: usize,
+) -> Result<usize, ReadFault>
+    ensures bytes { IfOk result (λ n. (more : List ℕ) × Consumes (R.left input.old) (R.left input.new) more
+        × (n ≡ length more) × (bytes.new.items ≡ bytes.old.items ++ more)) }
+    ensures bound { IfOk result (λ n. n ≤ most) }
+    ensures end { IfOk result (λ n. n ≡ 0 → 0 < most → IsAtEnd (R.left input.new)) }
+    ensures stays { OnErr result (bytes.new.items ≡ bytes.old.items) }
+    ensures none { OnErr result (Consumes (R.left input.old) (R.left input.new) []) }
+    ensures sound { OnOk result (R.failed input.new ≡ R.failed input.old) }
+    ensures read { IsErrOf result ReadFault.Read
+        → R.failed input.new ≡ one_more (R.failed input.old) }
+    ensures memory { IsErrOf result ReadFault.Memory → R.failed input.new ≡ R.failed input.old }
+{
+    let len = bytes.len();
+    bytes.resize(len + most.min(CHUNK), 0)?;
+    match input.pull(&mut bytes[len..]) {
+        Ok(n) => {
+            bytes.truncate(len + n);
+            Ok(n)
+        }
+        Err(_) => {
+            bytes.truncate(len);
+            Err(ReadFault::Read)
+        }
+    }
 }
 
 /// Reads to the end, but no more than `limit` bytes.
@@ -39,17 +81,10 @@ pub fn read_up_to<R: Source>(
     ensures memory { IsErrOf result ReadFault.Memory → R.failed input.new ≡ R.failed input.old }
 {
     let mut bytes = Vec::new(alloc);
-    let mut chunk = [0u8; CHUNK];
     while bytes.len() < limit {
-        let len = (limit - bytes.len()).min(CHUNK);
-        match input.pull(&mut chunk[..len]) {
-            Err(_) => return Err(ReadFault::Read),
-            Ok(0) => return Ok(bytes),
-            Ok(n) => {
-                if bytes.extend_from_slice(&chunk[..n]).is_err() {
-                    return Err(ReadFault::Memory);
-                }
-            }
+        let left = limit - bytes.len();
+        if pull_into(input, &mut bytes, left)? == 0 {
+            return Ok(bytes);
         }
     }
     Ok(bytes)

@@ -1,24 +1,27 @@
-use Rattle.std.proofs.Common.{rules, ◌≡◌, ℕ, Result, Ok, Err, IsErrOf, ap}
-use Rattle.std.specs.Result.{IsErr, IsErrAnd}
-use Rattle.lic_engine.specs.Failures.{CountsReads}
-use Rattle.lic_engine.specs.declared.fault.RunFault.{RunFault}
+use Rattle.std.proofs.Common.{◌++◌, Err, ap, refl, subst}
+use Rattle.lic_norm.specs.Refusal.{IsRefusal}
+use Rattle.lic_norm.specs.declared.fault.TextFault.{TextFault}
+use Rattle.lic_engine.proofs.InputLemmas.{of_reading, reads_counted, refusal_from, was_refused, was_unrefused}
 use Rattle.lic_engine.proofs.input.read_text.Goals as goal
 
--- a fault that is handed on counts the same reads
-handed_on : {A B : Type 0} (fault : RunFault) (result : Result B RunFault) (old new : ℕ) → IsErr result → IsErrAnd result (λ f. f ≡ fault)
-    → CountsReads {A = A} (Err fault) old new → CountsReads result old new
-handed_on fault (Ok x) old new is same reads = absurd (cc)
-handed_on fault (Err f) old new is same reads = search (rules, same, reads)
+pub returns-in_err-read_to_end-clause-refused : goal.returns-in_err-read_to_end-clause-refused
+returns-in_err-read_to_end-clause-refused g c = λ fault is not_memory.
+    let text = refusal_from c.in_err-read_to_end.field-0.0 c.from_residual.result fault c.from_residual.ensures.1 is in
+    let new = c.feeder-feeder.ensures in
+    let refused = c.in_err-read_to_end.ensures.refused fault (ap Err text) (ap (λ v. v.refused) new) in
+    was_refused _ _ fault refused.0 refused.1 (subst (λ l. IsRefusal fault (l ++ refused.0)) (ap (λ v. v.bytes) new) refused.2) not_memory
 
-pub returns-in_err-feed_all-clause-reads : goal.returns-in_err-feed_all-clause-reads
-returns-in_err-feed_all-clause-reads g c =
-    handed_on c.in_err-feed_all.field-0.0 c.from_residual.result _ _ c.from_residual.ensures.0 c.from_residual.ensures.1 c.in_err-feed_all.ensures.reads
+pub returns-in_err-read_to_end-clause-memory : goal.returns-in_err-read_to_end-clause-memory
+returns-in_err-read_to_end-clause-memory g c = λ is.
+    let text = refusal_from c.in_err-read_to_end.field-0.0 c.from_residual.result TextFault.Memory c.from_residual.ensures.1 is in
+    let new = c.feeder-feeder.ensures in
+    let refused = c.in_err-read_to_end.ensures.refused TextFault.Memory (ap Err text) (ap (λ v. v.refused) new) in
+    was_unrefused _ _ TextFault.Memory refused.0 refused.1 (subst (λ l. IsRefusal TextFault.Memory (l ++ refused.0)) (ap (λ v. v.bytes) new) refused.2) refl
 
--- and it is the same fault
-same_fault : {B : Type 0} (fault : RunFault) (result : Result B RunFault) (f : RunFault) → IsErrAnd result (λ x. x ≡ fault) → IsErrOf result f → fault ≡ f
-same_fault fault (Ok x) f same is = absurd (cc)
-same_fault fault (Err x) f same is = search (rules, same, is)
+pub returns-in_err-read_to_end-clause-reads : goal.returns-in_err-read_to_end-clause-reads
+returns-in_err-read_to_end-clause-reads g c =
+    reads_counted c.in_err-read_to_end.field-0.0 c.from_residual.result _ _ c.from_residual.ensures.1
+    (λ is. c.in_err-read_to_end.ensures.failed (ap Err is)) (λ refusal is. c.in_err-read_to_end.ensures.text refusal (ap Err is))
 
-pub returns-in_err-feed_all-clause-refused : goal.returns-in_err-feed_all-clause-refused
-returns-in_err-feed_all-clause-refused g c = λ fault is not_memory.
-    c.in_err-feed_all.ensures.refused fault (ap Err (same_fault c.in_err-feed_all.field-0.0 c.from_residual.result _ c.from_residual.ensures.1 is)) not_memory
+pub returns-in_err-read_to_end-clause-faults : goal.returns-in_err-read_to_end-clause-faults
+returns-in_err-read_to_end-clause-faults g c = of_reading c.in_err-read_to_end.field-0.0 c.from_residual.result c.from_residual.ensures.1
