@@ -9,3 +9,4 @@ pub mod OwnLetters
 pub mod OwnRuns
 pub mod PlainLines
 pub mod TextEdges
+pub mod TextEnds

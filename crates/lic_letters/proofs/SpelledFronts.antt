@@ -1,20 +1,21 @@
 -- Simple characters at the start of bytes, put one after another.
-use Rattle.std.proofs.Common.{◌≡◌, ℕ, zero, suc, ◌+◌, ◌<◌, ◌≤◌, true, false, not, ◌&&◌, le-leb, List, [], ◌∷◌, ◌++◌, length, take, drop, get_or, inl, inr, refl, sym, ap, ap₂, ◌∙◌, arith, subst, append_assoc, append-nil, length-append, length-take-le, take-add, take_at}
+use Rattle.std.proofs.Common.{◌≡◌, ℕ, zero, suc, ◌+◌, ◌-◌, ◌<◌, ◌≤◌, true, false, not, ◌&&◌, le-leb, List, [], ◌∷◌, ◌++◌, length, take, drop, get_or, inl, inr, refl, sym, ap, ap₂, ◌∙◌, arith, subst, append_assoc, append-nil, length-append, length-take-le, take-add, take_at, take_all, drop_at}
 use Rattle.std.specs.Prelude.{chars, nat_le, IsAscii, IsUtf8, encode_utf8_all}
 use Rattle.std.specs.List.{prefix_len}
 use Rattle.std.specs.Simd.Lanes.{chunk}
 use Rattle.std.specs.Char.{encode_utf8}
 use Rattle.std.proofs.lemmas.Bool.{and_parts, cases_lt, cond-true, false≢true, lt-ltb}
 use Rattle.std.proofs.lemmas.Simd.{run_in_chunk_fails, run_in_chunk_le}
-use Rattle.std.proofs.lemmas.List.{drop-drop, length-drop, take-append-drop}
+use Rattle.std.proofs.lemmas.List.{drop-drop, drop-append-le, drop_all, length-drop, take-append-drop, take-append-le}
 use Rattle.std.proofs.lemmas.Str.{encodes-IsAscii, encodes-append, encodes-chars, chars-append, chars-encodes}
 use Rattle.std.proofs.lemmas.Str.Ascii.{IsAscii-cons, IsAscii-nil}
-use Rattle.std.proofs.Math.Seq.{take-append_seam}
+use Rattle.std.proofs.Math.Seq.{drop-append_seam, take-append_seam}
+use borrow.Rule.Slice.PartMut.{mid_of, post_of, put_mid}
 use Rattle.std.proofs.Math.Utf8.{scalar, scalars, low_scalar}
 use Rattle.lic_kind.specs.declared.Kind.TheVariants as kind
 use Rattle.lic_kind.specs.Kinds.{kind_of}
 use Rattle.lic_letters.proofs.InPlace.{places_size}
-use Rattle.lic_letters.specs.Simple.{IsSimple, IsAlone, IsNoFront, AreOwn, AreSimple, ArePut, IsSpelled, in_place, all_in_place}
+use Rattle.lic_letters.specs.Simple.{IsSimple, IsAlone, IsNoFront, AreDone, AreOwn, AreSimple, ArePut, IsSpelled, in_place, all_in_place}
 
 -- ---- a character beyond ASCII
 
@@ -199,3 +200,86 @@ front_spelled text spelled n is within utf8 =
       simple = are;
       is = ap (take n) both ∙ take_at (all_in_place xs) (all_in_place ys) n long;
     }
+
+-- ---- in a copy of the bytes
+
+-- what is put may come after anything
+pub put_after : (bytes : List ℕ) (n : ℕ) (old new : List ℕ) → ArePut bytes n [] new → ArePut bytes n old (old ++ new)
+put_after bytes n old new put = record {
+  front = put.front;
+  scalar = put.scalar;
+  within = put.within;
+  spells = put.spells;
+  added = ap (λ l. old ++ l) put.added;
+  simple = put.simple;
+}
+
+pub none_done : (bytes : List ℕ) → AreDone bytes 0 []
+none_done bytes = record { within = omega arith; put = none_put bytes []; after = bytes; copied = refl }
+
+-- what comes after the copy
+after_copy : (bytes : List ℕ) (n : ℕ) (copy : List ℕ) (done : AreDone bytes n copy) → done.after ≡ drop (length copy) bytes
+after_copy bytes n copy done =
+    let rest : length (drop n copy) ≡ length copy - n = length-drop n copy in
+    let all : n + (length copy - n) ≡ length copy = omega (arith, done.within) in
+    sym (ap (λ k. drop k (drop n copy ++ done.after)) (sym rest) ∙ drop-append_seam (drop n copy) done.after)
+    ∙ ap (drop (length copy - n)) (sym done.copied) ∙ drop-drop (length copy - n) n bytes ∙ ap (λ k. drop k bytes) all
+
+-- more of the bytes are copied
+pub done_copied : (bytes : List ℕ) (n k : ℕ) (copy : List ℕ) → AreDone bytes n copy → AreDone bytes n (copy ++ take k (drop (length copy) bytes))
+done_copied bytes n k copy done =
+    let more = take k (drop (length copy) bytes) in
+    let parts : done.after ≡ more ++ drop k done.after =
+    sym (take-append-drop k done.after) ∙ ap (λ l. take k l ++ drop k done.after) (after_copy bytes n copy done) in
+    record {
+      within = omega (arith, done.within, length-append copy more);
+      put = subst (ArePut bytes n []) (sym (take-append-le n copy more done.within)) done.put;
+      after = drop k done.after;
+      copied = done.copied ∙ ap (λ l. drop n copy ++ l) parts ∙ sym (append_assoc (drop n copy) more (drop k done.after))
+          ∙ ap (λ l. l ++ drop k done.after) (sym (drop-append-le n copy more done.within));
+    }
+
+-- some more bytes that stay as they are
+pub done_own : (bytes : List ℕ) (n k : ℕ) (rest copy : List ℕ) → AreDone bytes n copy → rest ≡ drop n bytes → AreOwn rest k → n + k ≤ length copy → AreDone bytes (n + k) copy
+done_own bytes n k rest copy done here own within =
+    let fits : k ≤ length (drop n copy) = omega (arith, within, length-drop n copy) in
+    let same : take k rest ≡ take k (drop n copy) = ap (take k) (here ∙ done.copied) ∙ take-append-le k (drop n copy) done.after fits in
+    let all : take n copy ++ take k rest ≡ take (n + k) copy = ap (λ l. take n copy ++ l) same ∙ sym (take-add n k copy) in
+    record {
+      within = within;
+      put = subst (ArePut bytes (n + k) []) all (put_on bytes n k rest [] (take n copy) (take n copy ++ take k rest) done.put here (own.put (take n copy)));
+      after = done.after;
+      copied = sym (drop-drop k n bytes) ∙ ap (drop k) done.copied ∙ drop-append-le k (drop n copy) done.after fits ∙ ap (λ l. l ++ done.after) (drop-drop k n copy);
+    }
+
+-- some more that are put in the place of bytes that were copied
+pub done_put : (bytes : List ℕ) (n k : ℕ) (rest copy new : List ℕ) → AreDone bytes n copy → rest ≡ drop n bytes → k ≤ length copy - n
+    → length new ≡ length copy - n → ArePut rest k [] (take k new) → drop k new ≡ drop k (drop n copy) → AreDone bytes (n + k) (take n copy ++ new)
+done_put bytes n k rest copy new done here within long put same =
+    let front : length (take n copy) ≡ n = length-take-le n copy done.within in
+    let whole : length (take n copy ++ new) ≡ n + length new = omega (arith, length-append (take n copy) new, front) in
+    let fits : k ≤ length (drop n copy) = omega (arith, within, length-drop n copy) in
+    let first : take (n + k) (take n copy ++ new) ≡ take n copy ++ take k new =
+    take-add n k (take n copy ++ new) ∙ ap₂ (λ xs ys. xs ++ take k ys) (take_at (take n copy) new n front) (drop_at (take n copy) new n front) in
+    let last : drop (n + k) (take n copy ++ new) ≡ drop k new =
+    sym (drop-drop k n (take n copy ++ new)) ∙ ap (drop k) (drop_at (take n copy) new n front) in
+    record {
+      within = omega (arith, whole, long, within, done.within);
+      put = subst (ArePut bytes (n + k) []) (sym first)
+          (put_on bytes n k rest [] (take n copy) (take n copy ++ take k new) done.put here (put_after rest k (take n copy) (take k new) put));
+      after = done.after;
+      copied = sym (drop-drop k n bytes) ∙ ap (drop k) done.copied ∙ drop-append-le k (drop n copy) done.after fits
+          ∙ ap (λ l. l ++ done.after) (sym same ∙ sym last);
+    }
+
+-- the same, as the copy is after a write to its end
+pub done_put_mid : (bytes : List ℕ) (n k : ℕ) (rest copy new : List ℕ) → AreDone bytes n copy → rest ≡ drop n bytes
+    → k ≤ length (mid_of n (length copy - n) copy) → length new ≡ length (mid_of n (length copy - n) copy) → ArePut rest k [] (take k new)
+    → drop k new ≡ drop k (mid_of n (length copy - n) copy) → AreDone bytes (n + k) (put_mid n (length copy - n) copy new)
+done_put_mid bytes n k rest copy new done here within long put same =
+    let left : length (drop n copy) ≡ length copy - n = length-drop n copy in
+    let mid : mid_of n (length copy - n) copy ≡ drop n copy = take_all (length copy - n) (drop n copy) (omega (arith, left)) in
+    let post : post_of n (length copy - n) copy ≡ [] = drop_all (length copy - n) (drop n copy) (omega (arith, left)) in
+    let whole : put_mid n (length copy - n) copy new ≡ take n copy ++ new = ap (λ l. take n copy ++ l) (ap (λ l. new ++ l) post ∙ append-nil new) in
+    subst (AreDone bytes (n + k)) (sym whole)
+    (done_put bytes n k rest copy new done here (omega (arith, within, ap length mid, left)) (omega (arith, long, ap length mid, left)) put (same ∙ ap (drop k) mid))

@@ -81,6 +81,13 @@ pub record AreOwn (bytes : List ℕ) (n : ℕ) : Type 0 where
   pub within : n ≤ length bytes
   pub put : (old : List ℕ) → ArePut bytes n old (old ++ take n bytes)
 
+-- in this copy of the start of bytes, simple characters at their start, which take n of them, are put in the place of their bytes
+pub record AreDone (bytes : List ℕ) (n : ℕ) (copy : List ℕ) : Type 0 where
+  pub within : n ≤ length copy
+  pub put : ArePut bytes n [] (take n copy)
+  pub after : List ℕ
+  pub copied : drop n bytes ≡ drop n copy ++ after
+
 -- a text of simple characters is spelled byte for byte
 pub record IsSpelled (text spelled : List ℕ) : Type 0 where
   pub utf8 : IsUtf8 text

@@ -1,6 +1,7 @@
 //! The letters of text beyond ASCII, byte for byte.
 #![tactic(auto)]
 
+mod edges;
 mod plain;
 mod wide;
 

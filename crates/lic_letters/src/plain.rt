@@ -1,17 +1,23 @@
 //! Lines at the start of bytes of which nothing but white space is taken.
-ghost use Rattle.std.specs.Prelude.{◌≡◌, ◌-◌, ◌<◌, ◌≤◌, [], length, slice_index, take, IfOk, IfSome, IsTrue, IsUtf8, chars};
+ghost use Rattle.std.specs.Prelude.{◌≡◌, ◌⊎◌, ℕ, ◌+◌, ◌-◌, ◌<◌, ◌≤◌, length, slice_index, take, IfOk, IfSome, IsTrue, IsUtf8, OnOk, chars};
 ghost use Rattle.lic_kind.specs.LineRules.{rules_of};
 ghost use Rattle.lic_trim.specs.Lines.{cut_of, whole_line};
 ghost use Rattle.lic_trim.specs.Spaces.{TakesSpaces};
 ghost use Rattle.lic_letters.specs.PlainLines.{ArePlainLines, IsPlainLine};
-ghost use Rattle.lic_letters.specs.Simple.{ArePut, IsSpelled};
+ghost use Rattle.lic_letters.specs.Simple.{AreDone, IsSpelled};
 
-use crate::wide::chars::{char_at_end, char_at_start};
-use crate::wide::spell_front;
+use crate::edges::edges_of;
+use crate::wide::spell_on;
 use lic_kind::Rules;
 use lic_trim::{keeps_all, takes_spaces};
 use memchr::memchr;
 use std::alloc::{AllocError, Global};
+
+/// The bytes that spelling may go on past the end of a line.
+const MARGIN: usize = 64;
+
+/// The bytes past the end of a line that are copied together.
+const AHEAD: usize = 256;
 
 /// Whether all that is taken from a line in UTF-8 is white space, as far as its edges show: the first two characters of what is between
 /// its white space, and the last two.
@@ -19,23 +25,13 @@ fn wide_takes_spaces(rules: &Rules, line: &[u8]) -> bool
     ensures { IsTrue result → IsUtf8 line.now
         → TakesSpaces (cut_of (rules_of rules.now) whole_line (chars line.now)) (chars line.now) }
 {
-    let text = line.trim_ascii();
-    let Some(first) = char_at_start(text) else {
+    let Some(edges) = edges_of(line.trim_ascii()) else {
         return false;
     };
-    let Some(second) = char_at_start(&text[first.len_utf8()..]) else {
-        return false;
-    };
-    let Some(last) = char_at_end(text) else {
-        return false;
-    };
-    let Some(before) = char_at_end(&text[..text.len() - last.len_utf8()]) else {
-        return false;
-    };
-    if first.is_whitespace() || last.is_whitespace() {
+    if edges.first.is_whitespace() || edges.last.is_whitespace() {
         return false;
     }
-    keeps_all(rules, first, second, before, last)
+    keeps_all(rules, edges.first, edges.second, edges.before, edges.last)
 }
 
 /// Whether all that is taken from a line in UTF-8 is white space, as far as its edges show.
@@ -66,26 +62,43 @@ fn plain_line(rules: &Rules, bytes: &[u8]) -> Option<usize>
     }
 }
 
-/// Adds what these bytes are spelled by, of which `done` are spelled already, until `end` of them are, as far as they are of simple
-/// characters. The answer is how many are then spelled.
+/// Copies bytes until 64 more than to `end` are copied, or all of them, and mostly a few lines more.
+#[inline(always)]
+fn copy_on(bytes: &[u8], copy: &mut Vec<u8>, end: usize) -> Result<(), AllocError>
+    requires within { end ≤ length bytes.now }
+    requires copied { length copy.old.items ≤ length bytes.now }
+    ensures more { OnOk result ((n : ℕ) → AreDone bytes.now n copy.old.items → AreDone bytes.now n copy.new.items) }
+    ensures far { OnOk result ((end + 64 ≤ length copy.new.items) ⊎ (length copy.new.items ≡ length bytes.now)) }
+{
+    let from = copy.len();
+    if from >= bytes.len().min(end + MARGIN) {
+        return Ok(());
+    }
+    let to = bytes.len().min(end + AHEAD);
+    copy.extend_from_slice(&bytes[from..to])?;
+    Ok(())
+}
+
+/// Puts what simple characters are spelled by in the place of a copy of their bytes, of which the first `done` are so already, up to
+/// `end`. The answer is how many are then done.
 #[inline(always)]
 fn spell_to(
     alloc: Global,
-    spelled: &mut Vec<u8>,
     bytes: &[u8],
+    spelled: &mut Vec<u8>,
     done: usize,
     end: usize,
 ) -> Result<usize, AllocError>
     requires within { end ≤ length bytes.now }
-    requires put { ArePut bytes.now done [] spelled.old.items }
-    ensures put { IfOk result (λ n. ArePut bytes.now n [] spelled.new.items) }
+    requires done { AreDone bytes.now done spelled.old.items }
+    ensures done { IfOk result (λ n. AreDone bytes.now n spelled.new.items) }
     ensures more { IfOk result (λ n. done ≤ n) }
 {
     if done >= end {
         return Ok(done);
     }
-    let more = spell_front(alloc, spelled, &bytes[done..], end - done)?;
-    Ok(done + more)
+    copy_on(bytes, spelled, end)?;
+    spell_on(alloc, bytes, spelled, done, end)
 }
 
 /// Puts what such lines at the start of these bytes are spelled by in the place of what is there, as far as they are of simple
@@ -108,7 +121,7 @@ pub fn spell_lines(
     let mut done = 0;
     while let Some(count) = plain_line(rules, &bytes[at..]) {
         let end = at + count;
-        done = spell_to(alloc, spelled, bytes, done, end)?;
+        done = spell_to(alloc, bytes, spelled, done, end)?;
         if done < end {
             break;
         }

@@ -1,5 +1,6 @@
 //! Letters of two and of three bytes that stay as they are, by lanes.
-ghost use Rattle.std.specs.Prelude.{◌≡◌, ℕ, ◌+◌, ◌<◌, ◌≤◌, false, true, length, map, nat_lt, slice_index};
+ghost use Rattle.std.specs.Prelude.{◌≡◌, ℕ, ◌+◌, ◌<◌, ◌≤◌, false, true, length, map, nat_le, nat_lt, slice_index, IsTrue};
+ghost use Rattle.std.specs.Simd.Lanes.{mask_l};
 ghost use Rattle.lic_letters.specs.OwnLetters.{are_common, begins_three, begins_two, class_in, continues};
 ghost use Rattle.lic_letters.specs.Simple.{AreOwn};
 ghost use Rattle.lic_trim.specs.PieceLengths.{has_bit};
@@ -134,7 +135,8 @@ fn first_zero(mask: u64) -> usize
 #[inline(always)]
 fn two_front(bytes: &[u8]) -> usize
     requires { 18 ≤ length bytes.now }
-    ensures { AreOwn bytes.now result }
+    ensures own { AreOwn bytes.now result }
+    ensures few { result ≤ 64 }
 {
     let first = load(bytes, 0);
     let begins = two_places(first, load(bytes, 1));
@@ -146,7 +148,8 @@ fn two_front(bytes: &[u8]) -> usize
 #[inline(always)]
 fn three_front(bytes: &[u8]) -> usize
     requires { 18 ≤ length bytes.now }
-    ensures { AreOwn bytes.now result }
+    ensures own { AreOwn bytes.now result }
+    ensures few { result ≤ 64 }
 {
     let first = load(bytes, 0);
     let begins = three_places(first, load(bytes, 1)) & places_on(load(bytes, 2));
@@ -155,17 +158,42 @@ fn three_front(bytes: &[u8]) -> usize
     first_zero(known)
 }
 
-/// How many bytes stay as they are at the start of these, of the first 18, as far as lanes show it. The first is beyond ASCII.
+/// At which of 16 places a byte beyond ASCII is.
 #[inline(always)]
-pub(crate) fn letters_front(bytes: &[u8]) -> usize
-    ensures { AreOwn bytes.now result }
+fn high_places(lanes: u8x16) -> u64
+    ensures { result ≡ mask_l (map (λ b. nat_le 128 b) lanes) }
 {
-    if bytes.len() < AT_ONCE + LONGEST - 1 || bytes[0] == SIGN {
+    lanes.simd_ge(u8x16::splat(0x80)).to_bitmask()
+}
+
+/// Whether the first 16 of these bytes are of ASCII.
+#[inline(always)]
+fn begins_with_ascii(bytes: &[u8]) -> bool
+    requires { 16 ≤ length bytes.now }
+    ensures { IsTrue result → AreOwn bytes.now 16 }
+{
+    high_places(u8x16::from_slice(bytes)) == 0
+}
+
+/// How many bytes stay as they are at the start of these, of the first 18, as far as lanes show it.
+#[inline(always)]
+pub(crate) fn own_front(bytes: &[u8]) -> usize
+    requires { 0 < length bytes.now }
+    ensures own { AreOwn bytes.now result }
+    ensures few { result ≤ 64 }
+{
+    let first = bytes[0];
+    if bytes.len() < AT_ONCE + LONGEST - 1 {
+        return if first.is_ascii() { 1 } else { 0 };
+    }
+    if begins_with_ascii(bytes) {
+        return AT_ONCE;
+    }
+    if first < THREE {
+        return two_front(bytes);
+    }
+    if first == SIGN {
         return 0;
     }
-    if bytes[0] < THREE {
-        two_front(bytes)
-    } else {
-        three_front(bytes)
-    }
+    three_front(bytes)
 }

@@ -3,8 +3,8 @@ use Rattle.lic_letters.specs.Simple.{AreOwn}
 use Rattle.lic_letters.proofs.WideBytes.{letter_own}
 use Rattle.lic_letters.proofs.wide.own_letter.Goals as goal
 
-pub returns-then-is_own : goal.returns-then-is_own
-returns-then-is_own c = λ some.
+pub returns-then-is_own-clause-own : goal.returns-then-is_own-clause-own
+returns-then-is_own-clause-own c = λ some.
     let bytes : List ℕ = c.args.bytes.now in
     let first = c.in-Some.ensures in
     let yes = c.if-is_own.true in

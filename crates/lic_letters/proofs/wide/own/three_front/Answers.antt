@@ -7,8 +7,8 @@ first_zero-requires c =
     0 c.requires (λ i. (c.type_inv.bytes i).fits) c.load-first.ensures c.load.ensures c.load-2.ensures
     c.ascii_places.ensures.bits c.ascii_places.ensures.above c.three_places.ensures.bits c.three_places.ensures.above c.places_on.ensures
 
-pub returns : goal.returns
-returns c =
+pub returns-clause-own : goal.returns-clause-own
+returns-clause-own c =
     three_run c.args.bytes.now c.load-first.result c.load.result c.load-2.result c.ascii_places.result c.three_places.result c.places_on.result
     c.first_zero.result c.requires (λ i. (c.type_inv.bytes i).fits) c.load-first.ensures c.load.ensures c.load-2.ensures
     c.ascii_places.ensures.bits c.ascii_places.ensures.above c.three_places.ensures.bits c.three_places.ensures.above c.places_on.ensures

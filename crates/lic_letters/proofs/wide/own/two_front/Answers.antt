@@ -7,8 +7,8 @@ first_zero-requires c =
     (λ i. (c.type_inv.bytes i).fits) c.load-first.ensures c.load.ensures c.ascii_places.ensures.bits c.ascii_places.ensures.above
     c.two_places-begins.ensures.bits c.two_places-begins.ensures.above
 
-pub returns : goal.returns
-returns c =
+pub returns-clause-own : goal.returns-clause-own
+returns-clause-own c =
     two_run c.args.bytes.now c.load-first.result c.load.result c.ascii_places.result c.two_places-begins.result c.first_zero.result c.requires
     (λ i. (c.type_inv.bytes i).fits) c.load-first.ensures c.load.ensures c.ascii_places.ensures.bits c.ascii_places.ensures.above
     c.two_places-begins.ensures.bits c.two_places-begins.ensures.above c.first_zero.ensures.within c.first_zero.ensures.zero c.first_zero.ensures.below

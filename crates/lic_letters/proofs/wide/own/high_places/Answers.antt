@@ -1,7 +1,7 @@
 use Rattle.std.proofs.Common.{ℕ, leb, arith}
 use Rattle.std.proofs.lemmas.Simd.{zip2_splat_left}
 use Rattle.lic_letters.proofs.Lanes.{all_ones, mask_of}
-use Rattle.lic_letters.proofs.wide.high_places.Goals as goal
+use Rattle.lic_letters.proofs.wide.own.high_places.Goals as goal
 
 abbrev at_most : ℕ → ℕ → ℕ
 at_most a b = all_ones (leb a b)
