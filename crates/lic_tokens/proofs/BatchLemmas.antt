@@ -5,8 +5,6 @@ use Rattle.std.specs.Prelude.{slice_set}
 use Rattle.std.specs.Str.{IsUtf8}
 use Rattle.std.proofs.Math.Seq.{take-append-add}
 use Rattle.std.proofs.lemmas.List.{length-set, length-take-le, take-set, take-take, take_more_set}
-use Rattle.std.proofs.lemmas.Slice.{take-put_mid}
-use borrow.Rule.Slice.PartMut.{put_mid}
 use Rattle.std.proofs.lemmas.Str.{IsUtf8-append, IsUtf8-nil}
 use Rattle.lic_columns.specs.Bytes.{is_word}
 use Rattle.lic_columns.specs.PlainLines.{HasWords}
@@ -128,15 +126,15 @@ none_spelled_yet tokens i rewriting = record {
       (none_taken tokens i rewriting);
 }
 
-pub one_more_spelled : (tokens : List Token) (i next : ℕ) (rewriting : Rewriting) (bytes bytes' : List ℕ) (entries entries' : List Entry) (token : Token) (e : Entry)
+pub one_more_spelled : (tokens : List Token) (i next after : ℕ) (rewriting : Rewriting) (bytes bytes' : List ℕ) (entries entries' : List Entry) (token : Token) (e : Entry)
     → HasSpelledUpTo tokens i next rewriting bytes entries → rewriting.rewriter ≡ nothing_kept → IsUtf8 token.text → IsTokenText token.text
     → ((settled : List SpannedText) (taken : List Token) → Settles rewriting.phrases.now.phrases taken settled nothing_kept
     → Settles rewriting.phrases.now.phrases (taken ++ token ∷ []) (settled ++ spanned token ∷ []) nothing_kept)
     → token ∷ single_signs (drop (next + 1) tokens) ≡ single_signs (drop next tokens)
     → bytes' ≡ bytes ++ (blank_if (is_parted (spelled (texts_of rewriting.tokens) ++ bytes) token.text) ++ token.text)
     → e ≡ record { text_end = length (spelled (texts_of rewriting.tokens)) + length bytes'; start = token.start; end = token.end }
-    → entries' ≡ entries ++ e ∷ [] → HasSpelledUpTo tokens i (next + 1) rewriting bytes' entries'
-one_more_spelled tokens i next rewriting bytes bytes' entries entries' token e known none utf8 is leaves first grown entry added =
+    → entries' ≡ entries ++ e ∷ [] → next + 1 ≡ after → HasSpelledUpTo tokens i after rewriting bytes' entries'
+one_more_spelled tokens i next after rewriting bytes bytes' entries entries' token e known none utf8 is leaves first grown entry added one_more =
     let before = rewriting.tokens in
     let value : TokenValue = reported (spanned token) in
     let one : Entry = record {
@@ -145,7 +143,8 @@ one_more_spelled tokens i next rewriting bytes bytes' entries entries' token e k
       end = token.end;
     } in
     let more : Rewriting = record rewriting { tokens = before ++ known.added } in
-    record {
+    subst (λ n. HasSpelledUpTo tokens i n rewriting bytes' entries') one_more
+    (record {
       added = known.added ++ value ∷ [];
       spelled = subst (λ es. AreSpelledAfter before (known.added ++ value ∷ []) bytes' es)
           (ap (λ x. entries ++ x ∷ []) (sym entry) ∙ sym added)
@@ -155,7 +154,7 @@ one_more_spelled tokens i next rewriting bytes bytes' entries entries' token e k
       taken = taken_in_turn tokens i next (next + 1) rewriting more (record rewriting { tokens = before ++ (known.added ++ value ∷ []) }) known.taken
           (one_taken tokens next (next + 1) more (record rewriting { tokens = before ++ (known.added ++ value ∷ []) }) token
           (token_left more (before ++ (known.added ++ value ∷ [])) token none (sym (append_assoc before known.added (value ∷ []))) is leaves) first);
-    }
+    })
 
 -- ---- a batch
 

@@ -1,9 +1,10 @@
 -- Tokens that are given by the places where they begin and end.
-use Rattle.std.proofs.Common.{◌≡◌, ℕ, zero, suc, ◌+◌, ◌-◌, ◌<◌, ◌==◌, Bool, true, false, not, ◌&&◌, ◌||◌, List, [], ◌∷◌, length, take, drop, get_or, refl, sym, ap, ◌∙◌, subst, arith, add-one, drop-cons, length-drop, true≢false}
+use Rattle.std.proofs.Common.{◌≡◌, ℕ, zero, suc, ◌+◌, ◌-◌, ◌<◌, ◌≤◌, ◌==◌, Bool, true, false, not, ◌&&◌, ◌||◌, List, [], ◌∷◌, length, take, drop, get_or, refl, sym, ap, ap₂, ◌∙◌, subst, arith, add-one, drop-cons, length-drop, true≢false}
 use Rattle.std.specs.Char.{encode_utf8}
 use Rattle.std.specs.List.{AllByRecursion}
 use Rattle.std.specs.Str.{chars}
 use Rattle.std.specs.Prelude.{bytes_eq, codes, if◌then◌else◌, nat_lt, slice_range}
+use Rattle.std.proofs.lemmas.List.{get_or-drop}
 use Rattle.std.proofs.lemmas.Bool.{cond-true, cond-false, ne_eqb}
 use Rattle.lic_kind.specs.declared.Kind.TheVariants.{Mark, Word}
 use Rattle.lic_kind.specs.Kinds.{kind_of}
@@ -13,7 +14,7 @@ use Rattle.lic_columns.specs.SpanTokens.{span_tokens, spans_by, token_text}
 use Rattle.lic_lines.specs.Tokens.{Token, is_text, is_sign_in_parentheses, sign_from, as_sign, single_signs}
 use Rattle.lic_phrases.specs.FirstTexts.{IsPlain}
 use Rattle.lic_trim.proofs.TextLemmas.{bytes_eq-other}
-use Rattle.lic_tokens.specs.Stretches.{begins_sign}
+use Rattle.lic_tokens.specs.Stretches.{AreFrom, begins_sign}
 
 -- ---- one of the tokens
 
@@ -69,6 +70,55 @@ module _ (at : ℕ) (letters starts ends : List ℕ) (tokens : List Token) (pair
       → token_between at letters (get_or starts i 0) (get_or ends i 0) (blank_before true at starts ends i) ≡ get_or tokens i d
   token_is i d lt =
       sym (one_token true at at letters starts ends i d paired (omega (arith, count))) ∙ ap (λ l. get_or l i d) are
+
+-- a range of letters, by where it begins and how long it is
+pub range_is : (letters : List ℕ) (at s e start end : ℕ) → s ≡ start → e ≡ end → at ≤ start → start ≤ end
+    → slice_range letters (s - at) (s - at + (e - s)) ≡ slice_range letters (start - at) (end - at)
+range_is letters at s e start end is_s is_e from order =
+    ap₂ (λ m n. slice_range letters m n) (ap (λ m. m - at) is_s)
+    (let same : s - at + (e - s) ≡ end - at = omega (arith, is_s, is_e, from, order) in same)
+
+-- the tokens of a stretch from a number on, by the places of these alone
+module _ (at : ℕ) (letters starts ends starts' ends' : List ℕ) (tokens rest : List Token) (i : ℕ) (paired : length ends ≡ length starts)
+    (inside : i ≤ length tokens) (are : span_tokens true at at letters (spans_by starts ends) ≡ tokens)
+    (are_rest : span_tokens true at at letters (spans_by starts' ends') ≡ rest) (starts_are : starts' ≡ drop i starts) (ends_are : ends' ≡ drop i ends) where
+  paired' : length ends' ≡ length starts'
+  paired' = ap length ends_are ∙ length-drop i ends ∙ ap (λ n. n - i) paired ∙ sym (length-drop i starts) ∙ ap length (sym starts_are)
+
+  counted : i + length rest ≡ length tokens
+  counted =
+      omega (
+        arith,
+        inside,
+        count at letters starts ends tokens paired are,
+        count at letters starts' ends' rest paired' are_rest,
+        ap length starts_are,
+        length-drop i starts,
+      )
+
+  start : (k : ℕ) → get_or starts' k 0 ≡ get_or starts (i + k) 0
+  start k = ap (λ l. get_or l k 0) starts_are ∙ get_or-drop i starts k 0
+
+  end : (k : ℕ) → get_or ends' k 0 ≡ get_or ends (i + k) 0
+  end k = ap (λ l. get_or l k 0) ends_are ∙ get_or-drop i ends k 0
+
+  here : (k : ℕ) (d : Token) → k < length rest
+      → token_between at letters (get_or starts' k 0) (get_or ends' k 0) (blank_before true at starts' ends' k) ≡ get_or rest k d
+  here k d lt = token_is at letters starts' ends' rest paired' are_rest k d lt
+
+  there : (k : ℕ) (d : Token) → k < length rest
+      → token_between at letters (get_or starts (i + k) 0) (get_or ends (i + k) 0) (blank_before true at starts ends (i + k)) ≡ get_or tokens (i + k) d
+  there k d lt = token_is at letters starts ends tokens paired are (i + k) d (omega (arith, lt, counted))
+
+  pub rest_are : AreFrom tokens i rest
+  rest_are = record {
+    count = counted;
+    texts = λ k d lt.
+        sym (ap (λ (t : Token). t.text) (here k d lt)) ∙ ap₂ (λ m n. token_text (slice_range letters (m - at) (n - at))) (start k) (end k)
+        ∙ ap (λ (t : Token). t.text) (there k d lt);
+    starts = λ k d lt. sym (ap (λ (t : Token). t.start) (here k d lt)) ∙ start k ∙ ap (λ (t : Token). t.start) (there k d lt);
+    ends = λ k d lt. sym (ap (λ (t : Token). t.end) (here k d lt)) ∙ end k ∙ ap (λ (t : Token). t.end) (there k d lt);
+  }
 
 -- ---- letters
 

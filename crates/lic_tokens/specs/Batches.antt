@@ -1,5 +1,5 @@
 -- Tokens that are spelled together before they are added to a list.
-use Rattle.std.specs.Prelude.{◌≡◌, ℕ, ◌-◌, ◌*◌, ◌≤◌, List, ◌++◌, take, IsUtf8}
+use Rattle.std.specs.Prelude.{◌≡◌, ℕ, ◌+◌, ◌*◌, ◌≤◌, List, ◌++◌, take, IsUtf8}
 use Rattle.lic_lines.specs.Tokens.{Token}
 use Rattle.lic_phrases.specs.Spelling.{ends_in_word, spelled}
 use Rattle.lic_tokens.specs.Places.{texts_of}
@@ -29,9 +29,8 @@ pub record HasSpelledUpTo (tokens : List Token) (i next : ℕ) (rewriting : Rewr
 
 -- the tokens from the number `i` on are in a batch, as far as they are spelled there, each in at most 33 bytes
 pub record AreInBatch (tokens : List Token) (i : ℕ) (rewriting : Rewriting) (batch : Batch) (state : Spelled) : Type 0 where
-  pub from : i ≤ state.next
-  pub short : state.place ≤ 33 * (state.next - i)
+  pub short : state.place ≤ 33 * state.count
   pub utf8 : IsUtf8 (spelled (texts_of rewriting.tokens))
-  pub holds : HasSpelledUpTo tokens i state.next rewriting (take state.place batch.bytes)
-      (entries_by (take (state.next - i) batch.ends) (take (state.next - i) batch.sources))
+  pub holds : HasSpelledUpTo tokens i (i + state.count) rewriting (take state.place batch.bytes)
+      (entries_by (take state.count batch.ends) (take state.count batch.sources))
   pub word : state.after_word ≡ ends_in_word (spelled (texts_of rewriting.tokens) ++ take state.place batch.bytes)

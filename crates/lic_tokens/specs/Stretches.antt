@@ -1,5 +1,5 @@
 -- Tokens of lines, by the places where they begin and end.
-use Rattle.std.specs.Prelude.{◌≡◌, ℕ, ◌+◌, ◌<◌, ◌≤◌, Bool, false, true, List, [], ◌∷◌, length, slice_index, ◌-◌, IsUtf8}
+use Rattle.std.specs.Prelude.{◌≡◌, ℕ, ◌+◌, ◌<◌, ◌≤◌, Bool, false, true, List, [], ◌∷◌, length, slice_index, slice_index_or, ◌-◌, IsUtf8}
 use Rattle.std.specs.Str.{IsCharBoundary}
 use Rattle.lic_lines.specs.Tokens.{Token, is_sign_in_parentheses}
 use Rattle.lic_columns.specs.PlainLines.{HasWords}
@@ -17,9 +17,21 @@ pub record AreTokenPlaces (at : ℕ) (places : TokenPlaces) : Type 0 where
   pub begin : (i : ℕ) → i < length places.starts → IsCharBoundary places.letters (slice_index places.starts i - at)
   pub end : (i : ℕ) → i < length places.starts → IsCharBoundary places.letters (slice_index places.ends i - at)
 
+-- they are, and at least 16 letters come from each letter before this number on
+pub record IsStretch (at wide : ℕ) (places : TokenPlaces) : Type 0 where
+  pub are : AreTokenPlaces at places
+  pub long : (n : ℕ) → n < wide → n + 16 ≤ length places.letters
+
 -- the tokens that have these letters
 abbrev pub tokens_at : ℕ → TokenPlaces → List Token
 tokens_at at places = span_tokens true at at places.letters (spans_by places.starts places.ends)
+
+-- these have the texts and the bytes of the source of those tokens, from the number `i` on
+pub record AreFrom (tokens : List Token) (i : ℕ) (rest : List Token) : Type 0 where
+  pub count : i + length rest ≡ length tokens
+  pub texts : (k : ℕ) (d : Token) → k < length rest → (slice_index_or rest k d).text ≡ (slice_index_or tokens (i + k) d).text
+  pub starts : (k : ℕ) (d : Token) → k < length rest → (slice_index_or rest k d).start ≡ (slice_index_or tokens (i + k) d).start
+  pub ends : (k : ℕ) (d : Token) → k < length rest → (slice_index_or rest k d).end ≡ (slice_index_or tokens (i + k) d).end
 
 -- the first three tokens are `(`, `c` and `)`, unbroken
 abbrev pub begins_sign : List Token → Bool

@@ -270,17 +270,17 @@ impl<'w> Rewriting<'w> {
         ensures settled { self.new.settled.items ≡ self.old.settled.items }
     {
         let Spelled {
-            next,
+            count,
             place,
             after_word,
         } = spell(self, stretch, i, batch);
         self.tokens.add(
             &batch.bytes[..place],
-            &batch.ends[..next - i],
-            &batch.sources[..next - i],
+            &batch.ends[..count],
+            &batch.sources[..count],
             after_word,
         )?;
-        Ok(next)
+        Ok(i + count)
     }
 
     /// Takes the token number `i` of lines, if there is one, or the copyright sign that begins there, through the rewriter, and

@@ -1,12 +1,15 @@
 //! The first tokens of lines, by the places where they begin and end.
-ghost use Rattle.std.specs.Prelude.{◌≡◌, ◌<◌, ◌&&◌, not, true, length, drop, take, slice_index, slice_index_or, codes, IsUtf8};
+ghost use Rattle.std.specs.Prelude.{◌≡◌, ◌<◌, ◌≤◌, ◌&&◌, not, true, length, drop, take, slice_index, slice_index_or, codes, IfSome, IsUtf8};
 ghost use Rattle.lic_columns.specs.PlainLines.{HasWords};
 ghost use Rattle.lic_columns.specs.SpanTokens.{span_tokens, spans_by, token_text};
 ghost use Rattle.lic_lines.specs.Tokens.{is_text};
-ghost use Rattle.lic_tokens.specs.Stretches.{AreTokenPlaces, begins_sign};
+ghost use Rattle.lic_tokens.specs.Stretches.{AreFrom, AreTokenPlaces, begins_sign};
 
 use lic_columns::Lines;
 use std::marker::Model;
+
+/// The letters of a token that are copied at once: most texts have fewer.
+pub(crate) const COPIED: usize = 16;
 
 /// The first tokens of lines that begin at a byte of the input.
 #[derive(Drop)]
@@ -15,19 +18,21 @@ pub struct Stretch<'a> {
     letters: &'a [u8],
     starts: &'a [u32],
     ends: &'a [u32],
+    /// At least `COPIED` letters come from each letter before this number on.
+    wide: usize,
 }
 
 impl<'a> Model for Stretch<'a> {
     ghost use Rattle.std.specs.Prelude.{true, List};
     ghost use Rattle.lic_columns.specs.SpanTokens.{span_tokens, spans_by};
     ghost use Rattle.lic_lines.specs.Tokens.{Token};
-    ghost use Rattle.lic_tokens.specs.Stretches.{AreTokenPlaces};
+    ghost use Rattle.lic_tokens.specs.Stretches.{IsStretch};
 
     ghost Value = { List Token };
 
     ghost view = { λ s. span_tokens true s.at s.at s.letters.now (spans_by s.starts.now s.ends.now) };
 
-    ghost invariant = { λ s. AreTokenPlaces s.at (record {
+    ghost invariant = { λ s. IsStretch s.at s.wide (record {
       letters = s.letters.now;
       starts = s.starts.now;
       ends = s.ends.now;
@@ -59,6 +64,15 @@ fn place(places: &[u32], i: usize) -> u32
     places[i]
 }
 
+/// The places from this number on.
+#[inline(always)]
+fn places_from(places: &[u32], i: usize) -> &[u32]
+    requires { i ≤ length places.now }
+    ensures { result.now ≡ drop i places.now }
+{
+    &places[i..]
+}
+
 impl<'a> Stretch<'a> {
     /// The tokens of lines that were read, which begin at this byte of the input.
     pub fn of(at: u32, lines: &'a Lines) -> Stretch<'a>
@@ -71,6 +85,22 @@ impl<'a> Stretch<'a> {
             letters: lines.letters(),
             starts: lines.starts(),
             ends: lines.ends(),
+            wide: lines.letters().len().saturating_sub(COPIED - 1),
+        }
+    }
+
+    /// The tokens from the number `i` on. Whether a blank comes before the first of them is not kept.
+    #[inline(always)]
+    pub(crate) fn rest(&self, i: usize) -> Stretch<'a>
+        requires { i ≤ length self.now }
+        ensures { AreFrom self.now i result }
+    {
+        Stretch {
+            at: self.at,
+            letters: self.letters,
+            starts: places_from(self.starts, i),
+            ends: places_from(self.ends, i),
+            wide: self.wide,
         }
     }
 
@@ -99,8 +129,8 @@ impl<'a> Stretch<'a> {
         let start = place(self.starts, i);
         let end = place(self.ends, i);
         let from = (start - self.at) as usize;
-        let to = (end - self.at) as usize;
-        &self.letters[from..to]
+        let len = (end - start) as usize;
+        &self.letters[from..from + len]
     }
 
     /// The text of the token number `i`.
@@ -124,6 +154,22 @@ impl<'a> Stretch<'a> {
         let start = place(self.starts, i);
         let from = (start - self.at) as usize;
         &self.letters[from..]
+    }
+
+    /// The same, if at least `COPIED` come.
+    #[inline(always)]
+    pub(crate) fn wide_letters(&self, i: usize) -> Option<&'a [u8]>
+        requires { i < length self.now }
+        ensures front { IfSome result (λ letters. (d : _) → (slice_index_or self.now i d).text
+            ≡ take (length (slice_index_or self.now i d).text) letters.now) }
+        ensures long { IfSome result (λ letters. COPIED ≤ length letters.now) }
+    {
+        let start = place(self.starts, i);
+        let from = (start - self.at) as usize;
+        if from >= self.wide {
+            return None;
+        }
+        Some(&self.letters[from..])
     }
 
     /// Where it begins in the input.

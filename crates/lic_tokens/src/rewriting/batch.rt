@@ -12,15 +12,12 @@ ghost use Rattle.lic_tokens.specs.Stretches.{begins_sign};
 
 use crate::entries::SourceBytes;
 use crate::rewriting::Rewriting;
-use crate::stretch::Stretch;
+use crate::stretch::{COPIED, Stretch};
 use crate::word_bytes::is_word_byte;
 use lic_phrases::{Phrases, Rewriter};
 use std::simd::prelude::*;
 
-/// The letters that are copied at once: most texts have fewer.
-const COPIED: usize = 16;
-
-/// And those of a longer text.
+/// The letters of a longer text that are copied at once.
 const MOST: usize = 32;
 
 /// The most tokens that are spelled together.
@@ -45,8 +42,8 @@ pub struct Batch {
 /// How far they are spelled.
 #[derive(Clone, Copy)]
 pub(crate) struct Spelled {
-    /// The number of the next token.
-    pub(crate) next: usize,
+    /// How many tokens.
+    pub(crate) count: usize,
     /// The place after their bytes.
     pub(crate) place: usize,
     /// Whether a word ends there.
@@ -161,78 +158,100 @@ pub(crate) fn spell(
     requires within { i ≤ length stretch.now }
     requires none { rewriting.now.rewriter ≡ nothing_kept }
     requires texts { HaveTexts stretch.now }
-    ensures within { result.next ≤ length stretch.now }
-    ensures few { result.next ≤ i + TOKENS }
-    ensures near { i < result.next → length (spelled (texts_of rewriting.now.tokens)) < 2 ^ 32 }
+    ensures within { i + result.count ≤ length stretch.now }
+    ensures fits { i + result.count < 2 ^ 64 }
+    ensures few { result.count ≤ TOKENS }
+    ensures near { 0 < result.count → length (spelled (texts_of rewriting.now.tokens)) < 2 ^ 32 }
     ensures held { AreInBatch stretch.now i rewriting.now batch.new result }
 {
     let before = rewriting.tokens.spelled().len();
-    let last = i + (stretch.len() - i).min(TOKENS);
+    let most = (stretch.len() - i).min(TOKENS);
     let mut state = Spelled {
-        next: i,
+        count: 0,
         place: 0,
         after_word: rewriting.tokens.after_word(),
     };
     if before > MAX_BEFORE {
         return state;
     }
-    while state.next < last {
-        state = spell_plain(rewriting, stretch, i, last, before, state, batch);
-        if state.next >= last {
+    while state.count < most {
+        state = spell_plain(rewriting, stretch, i, most, before, state, batch);
+        if state.count >= most {
             return state;
         }
-        let Some(text) = plain_after_look(rewriting.phrases, stretch, state.next) else {
+        let next = i + state.count;
+        let Some(text) = plain_after_look(rewriting.phrases, stretch, next) else {
             return state;
         };
-        let letters = stretch.letters_from(state.next);
+        let letters = stretch.letters_from(next);
         if text.len() > MOST || letters.len() < MOST {
             return state;
         }
+        let (start, end) = (stretch.start(next), stretch.end(next));
         state = put_token(
-            rewriting, stretch, i, before, text, letters, MOST, state, batch,
+            rewriting, stretch, i, before, text, letters, MOST, start, end, state, batch,
         );
     }
     state
 }
 
-/// Spells more tokens, before the number `last`, as long as the table says of each that it is plain.
-#[inline(always)]
+/// Spells more tokens, as long as there are fewer than `most` and the table says of each that it is plain. It is a function of its own,
+/// since its loop is quicker with few values beside it.
+#[inline(never)]
 fn spell_plain(
     rewriting: &Rewriting<'_>,
     stretch: &Stretch<'_>,
     i: usize,
-    last: usize,
+    most: usize,
     before: usize,
     from: Spelled,
     batch: &mut Batch,
 ) -> Spelled
-    requires order { from.next ≤ last }
-    requires within { last ≤ length stretch.now }
-    requires few { last ≤ i + TOKENS }
+    requires order { from.count ≤ most }
+    requires within { i + most ≤ length stretch.now }
+    requires few { most ≤ TOKENS }
     requires before { before ≡ length (spelled (texts_of rewriting.now.tokens)) }
     requires fits { before ≤ MAX_BEFORE }
     requires none { rewriting.now.rewriter ≡ nothing_kept }
     requires texts { HaveTexts stretch.now }
     requires held { AreInBatch stretch.now i rewriting.now batch.old from }
-    ensures grown { from.next ≤ result.next }
-    ensures within { result.next ≤ last }
+    ensures grown { from.count ≤ result.count }
+    ensures within { result.count ≤ most }
     ensures held { AreInBatch stretch.now i rewriting.now batch.new result }
 {
-    let mut state = from;
-    while state.next < last {
-        let text = stretch.letters_of(state.next);
-        let letters = stretch.letters_from(state.next);
-        if text.len() > COPIED || letters.len() < COPIED {
-            return state;
+    let phrases = rewriting.phrases;
+    let tokens = stretch.rest(i);
+    let Spelled {
+        mut count,
+        mut place,
+        mut after_word,
+    } = from;
+    while count < most {
+        let text = tokens.letters_of(count);
+        let Some(letters) = tokens.wide_letters(count) else {
+            break;
+        };
+        if text.len() > COPIED || !Rewriter::leaves_plain(phrases, text) {
+            break;
         }
-        if !Rewriter::leaves_plain(rewriting.phrases, text) {
-            return state;
-        }
-        state = put_token(
-            rewriting, stretch, i, before, text, letters, COPIED, state, batch,
+        let (start, end) = (tokens.start(count), tokens.end(count));
+        let state = Spelled {
+            count,
+            place,
+            after_word,
+        };
+        let next = put_token(
+            rewriting, stretch, i, before, text, letters, COPIED, start, end, state, batch,
         );
+        count = next.count;
+        place = next.place;
+        after_word = next.after_word;
     }
-    state
+    Spelled {
+        count,
+        place,
+        after_word,
+    }
 }
 
 /// Spells the next token, which has this text, is plain and short.
@@ -245,18 +264,21 @@ fn put_token(
     text: &[u8],
     letters: &[u8],
     wide: usize,
+    start: u32,
+    end: u32,
     state: Spelled,
     batch: &mut Batch,
 ) -> Spelled
-    requires within { state.next < length stretch.now }
-    requires few { state.next < i + TOKENS }
-    requires counted { state.next + 1 < 2 ^ 64 }
+    requires within { i + state.count < length stretch.now }
+    requires few { state.count < TOKENS }
     requires before { before ≡ length (spelled (texts_of rewriting.now.tokens)) }
     requires fits { before ≤ MAX_BEFORE }
     requires none { rewriting.now.rewriter ≡ nothing_kept }
     requires texts { HaveTexts stretch.now }
     requires held { AreInBatch stretch.now i rewriting.now batch.old state }
-    requires text { (d : _) → text.now ≡ (slice_index_or stretch.now state.next d).text }
+    requires text { (d : _) → text.now ≡ (slice_index_or stretch.now (i + state.count) d).text }
+    requires start { (d : _) → start ≡ (slice_index_or stretch.now (i + state.count) d).start }
+    requires end { (d : _) → end ≡ (slice_index_or stretch.now (i + state.count) d).end }
     requires lanes { (wide ≡ COPIED) ⊎ (wide ≡ MOST) }
     requires most { wide ≤ MOST }
     requires short { length text.now ≤ wide }
@@ -264,14 +286,12 @@ fn put_token(
     requires wide { wide ≤ length letters.now }
     requires utf8 { IsUtf8 text.now }
     requires words { HasWords text.now }
-    requires no_sign { begins_sign (drop state.next stretch.now) ≡ false }
+    requires no_sign { begins_sign (drop (i + state.count) stretch.now) ≡ false }
     requires left { IsLeft rewriting.now.phrases.now.phrases text.now }
-    ensures next { result.next ≡ state.next + 1 }
+    ensures count { result.count ≡ state.count + 1 }
     ensures held { AreInBatch stretch.now i rewriting.now batch.new result }
 {
-    let next = state.next;
-    let start = stretch.start(next);
-    let end = stretch.end(next);
+    let count = state.count;
     let blank = state.after_word & is_word_at(text, 0);
     let place = put(
         &mut batch.bytes,
@@ -281,10 +301,10 @@ fn put_token(
         text.len(),
         wide,
     );
-    batch.ends[next - i] = (before + place) as u32;
-    batch.sources[next - i] = SourceBytes { start, end };
+    batch.ends[count] = (before + place) as u32;
+    batch.sources[count] = SourceBytes { start, end };
     Spelled {
-        next: next + 1,
+        count: count + 1,
         place,
         after_word: is_word_at(text, text.len() - 1),
     }

@@ -1,7 +1,6 @@
-use Rattle.std.proofs.Common.{◌≡◌, ◌-◌, [], length, ap, sym, ◌∙◌, append-nil, subst, arith, take}
+use Rattle.std.proofs.Common.{◌≡◌, ◌+◌, [], length, ap, sym, ◌∙◌, append-nil, subst, arith, take}
 use Rattle.lic_phrases.specs.Spelling.{ends_in_word}
 use Rattle.lic_tokens.specs.Batches.{AreInBatch, HasSpelledUpTo}
-use Rattle.lic_tokens.specs.Entries.{entries_by}
 use Rattle.lic_tokens.proofs.BatchLemmas.{none_spelled_yet}
 use Rattle.lic_tokens.proofs.StretchTokens.{no_token}
 use Rattle.lic_tokens.proofs.rewriting.batch.spell.Goals as goal
@@ -9,16 +8,14 @@ use Rattle.lic_tokens.proofs.rewriting.batch.spell.Goals.{After-after_word}
 
 -- none is in it yet
 none_yet : (c : After-after_word) → AreInBatch c.args.stretch.now c.args.i c.args.rewriting.now c.args.batch.now
-    (record { next = c.args.i; place = 0; after_word = c.after_word.result })
+    (record { count = 0; place = 0; after_word = c.after_word.result })
 none_yet c =
     let i = c.args.i in
-    let none : 0 ≡ i - i = omega arith in
+    let none : i ≡ i + 0 = omega arith in
     record {
-      from = omega arith;
       short = omega arith;
       utf8 = c.after_word.ensures.utf8;
-      holds = subst (λ n. HasSpelledUpTo c.args.stretch.now i i c.args.rewriting.now []
-          (entries_by (take n c.args.batch.now.ends) (take n c.args.batch.now.sources))) none
+      holds = subst (λ n. HasSpelledUpTo c.args.stretch.now i n c.args.rewriting.now [] []) none
           (none_spelled_yet c.args.stretch.now i c.args.rewriting.now);
       word = c.after_word.ensures.word ∙ ap ends_in_word (sym (append-nil _));
     }
@@ -41,5 +38,5 @@ loop-state-smaller c =
       c.loop-state-test.true,
       c.spell_plain-state.ensures.grown,
       c.spell_plain-state.ensures.within,
-      c.put_token-state.ensures.next,
+      c.put_token-state.ensures.count,
     )

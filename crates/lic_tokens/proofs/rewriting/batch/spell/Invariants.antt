@@ -5,9 +5,9 @@ use Rattle.lic_tokens.proofs.rewriting.batch.spell.Given as goal
 -- the tokens so far are in the batch
 abbrev pub invariant-loop-state : goal.invariant-loop-state
 invariant-loop-state l = record {
-  within : l.state.next ≤ l.last;
+  within : l.state.count ≤ l.most;
   held : AreInBatch l.stretch l.i l.rewriting l.batch l.state;
 }
 
 abbrev pub decreases-loop-state : goal.decreases-loop-state
-decreases-loop-state l = l.last - l.state.next
+decreases-loop-state l = l.most - l.state.count

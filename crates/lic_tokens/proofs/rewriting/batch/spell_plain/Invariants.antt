@@ -3,12 +3,12 @@ use Rattle.lic_tokens.specs.Batches.{AreInBatch}
 use Rattle.lic_tokens.proofs.rewriting.batch.spell_plain.Given as goal
 
 -- the tokens so far are in the batch
-abbrev pub invariant-loop-state : goal.invariant-loop-state
-invariant-loop-state l = record {
-  grown : l.fn.from.next ≤ l.state.next;
-  within : l.state.next ≤ l.last;
-  held : AreInBatch l.stretch l.i l.rewriting l.batch l.state;
+abbrev pub invariant-loop-count : goal.invariant-loop-count
+invariant-loop-count l = record {
+  grown : l.fn.from.count ≤ l.count;
+  within : l.count ≤ l.most;
+  held : AreInBatch l.stretch l.i l.rewriting l.batch (record { count = l.count; place = l.place; after_word = l.after_word });
 }
 
-abbrev pub decreases-loop-state : goal.decreases-loop-state
-decreases-loop-state l = l.last - l.state.next
+abbrev pub decreases-loop-count : goal.decreases-loop-count
+decreases-loop-count l = l.most - l.count

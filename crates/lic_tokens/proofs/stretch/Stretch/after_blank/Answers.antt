@@ -9,7 +9,7 @@ returns-then-i-eq0 c = λ d.
     let s = c.self.inside in
     ap (blank_before true s.at s.starts.now s.ends.now) (let zero : 0 ≡ c.args.i = omega (arith, c.if-i-eq0.true) in zero)
     ∙ ap (λ (t : Token). t.after_blank)
-    (token_is s.at s.letters.now s.starts.now s.ends.now c.args.self.now c.self.invariant.paired c.self.view_is c.args.i d c.requires)
+    (token_is s.at s.letters.now s.starts.now s.ends.now c.args.self.now c.self.invariant.are.paired c.self.view_is c.args.i d c.requires)
 
 pub place-before-requires : goal.place-before-requires
 place-before-requires c =
@@ -17,14 +17,14 @@ place-before-requires c =
     omega (
       arith,
       c.requires,
-      count s.at s.letters.now s.starts.now s.ends.now c.args.self.now c.self.invariant.paired c.self.view_is,
-      c.self.invariant.paired,
+      count s.at s.letters.now s.starts.now s.ends.now c.args.self.now c.self.invariant.are.paired c.self.view_is,
+      c.self.invariant.are.paired,
     )
 
 pub place-requires : goal.place-requires
 place-requires c =
     let s = c.self.inside in
-    omega (arith, c.requires, count s.at s.letters.now s.starts.now s.ends.now c.args.self.now c.self.invariant.paired c.self.view_is)
+    omega (arith, c.requires, count s.at s.letters.now s.starts.now s.ends.now c.args.self.now c.self.invariant.are.paired c.self.view_is)
 
 pub returns : goal.returns
 returns c = λ d.
@@ -32,4 +32,4 @@ returns c = λ d.
     ap₂ nat_lt c.place-before.ensures c.place.ensures
     ∙ blank_later true s.at s.starts.now s.ends.now c.args.i (omega (arith, c.if-i-eq0.false))
     ∙ ap (λ (t : Token). t.after_blank)
-    (token_is s.at s.letters.now s.starts.now s.ends.now c.args.self.now c.self.invariant.paired c.self.view_is c.args.i d c.requires)
+    (token_is s.at s.letters.now s.starts.now s.ends.now c.args.self.now c.self.invariant.are.paired c.self.view_is c.args.i d c.requires)

@@ -7,14 +7,14 @@ use Rattle.lic_tokens.proofs.stretch.Stretch.letters_from.Goals as goal
 pub place-start-requires : goal.place-start-requires
 place-start-requires c =
     let s = c.self.inside in
-    omega (arith, c.requires, count s.at s.letters.now s.starts.now s.ends.now c.args.self.now c.self.invariant.paired c.self.view_is)
+    omega (arith, c.requires, count s.at s.letters.now s.starts.now s.ends.now c.args.self.now c.self.invariant.are.paired c.self.view_is)
 
 pub overflow_sub-from : goal.overflow_sub-from
 overflow_sub-from c =
     let s = c.self.inside in
     let lt : c.args.i < length s.starts.now =
-    omega (arith, c.requires, count s.at s.letters.now s.starts.now s.ends.now c.args.self.now c.self.invariant.paired c.self.view_is) in
-    omega (arith, c.self.invariant.from c.args.i lt, c.place-start.ensures)
+    omega (arith, c.requires, count s.at s.letters.now s.starts.now s.ends.now c.args.self.now c.self.invariant.are.paired c.self.view_is) in
+    omega (arith, c.self.invariant.are.from c.args.i lt, c.place-start.ensures)
 
 pub returns : goal.returns
 returns c = record {
@@ -25,7 +25,7 @@ returns c = record {
       let end = get_or s.ends.now i 0 in
       let rest = drop (start - s.at) s.letters.now in
       let texts = ap (λ (t : Token). t.text)
-      (token_is s.at s.letters.now s.starts.now s.ends.now c.args.self.now c.self.invariant.paired c.self.view_is i d c.requires) in
+      (token_is s.at s.letters.now s.starts.now s.ends.now c.args.self.now c.self.invariant.are.paired c.self.view_is i d c.requires) in
       let here = take_rest s.letters.now (c.place-start.result - s.at) ∙ ap (λ m. drop (m - s.at) s.letters.now) c.place-start.ensures in
       sym texts ∙ text_in_front rest ((end - s.at) - (start - s.at))
       ∙ ap₂ (λ (t l : List ℕ). take (length t) l) texts (sym here);

@@ -9,8 +9,8 @@ place-requires c =
     omega (
       arith,
       c.requires,
-      count s.at s.letters.now s.starts.now s.ends.now c.args.self.now c.self.invariant.paired c.self.view_is,
-      c.self.invariant.paired,
+      count s.at s.letters.now s.starts.now s.ends.now c.args.self.now c.self.invariant.are.paired c.self.view_is,
+      c.self.invariant.are.paired,
     )
 
 pub returns : goal.returns
@@ -18,4 +18,4 @@ returns c = λ d.
     let s = c.self.inside in
     c.place.ensures
     ∙ ap (λ (t : Token). t.start)
-    (token_is s.at s.letters.now s.starts.now s.ends.now c.args.self.now c.self.invariant.paired c.self.view_is c.args.i d c.requires)
+    (token_is s.at s.letters.now s.starts.now s.ends.now c.args.self.now c.self.invariant.are.paired c.self.view_is c.args.i d c.requires)
