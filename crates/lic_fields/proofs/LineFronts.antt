@@ -95,9 +95,9 @@ module _ (old bytes : List ℕ) (same len one two : ℕ) (within : same ≤ leng
       sym (take-take same len bytes (omega (arith, written_long))) ∙ (ap (take same) written
       ∙ take_at (take same old) (field (decimal one) 0x09 ++ field (decimal two) 0x09) same (length-take-le same old within))
 
-  pub kept_of : (first_end : ℕ) (first second first_four second_four : List ℕ) → EndsField first first_four one → EndsField second second_four two
-      → first_end ≡ same + (length (decimal one) + 1) → len ≤ same + 42 → same + 170 ≤ length bytes → IsKept bytes same first_end len first second
-  kept_of first_end first second first_four second_four first_is second_is end_is end_fits enough =
+  pub kept_of : (first_end : ℕ) (first first_four second_four : List ℕ) → EndsField first first_four one → EndsField first second_four two
+      → first_end ≡ same + (length (decimal one) + 1) → len ≤ same + 42 → same + 170 ≤ length bytes → IsKept bytes same first_end len first
+  kept_of first_end first first_four second_four first_is second_is end_is end_fits enough =
       let long : length (decimal one) + 1 ≡ length first + 4 =
       sym (length-append (decimal one) (0x09 ∷ [])) ∙ (ap length first_is.1
       ∙ (length-append first first_four ∙ ap (λ n. length first + n) first_is.0)) in
@@ -113,10 +113,10 @@ module _ (old bytes : List ℕ) (same len one two : ℕ) (within : same ≤ leng
       }
 
 -- where the two numbers that are kept end
-pub kept_end : (bytes : List ℕ) (same first_end len : ℕ) (first second : List ℕ) → IsKept bytes same first_end len first second
-    → len ≡ first_end + (length second + 4)
-kept_end bytes same first_end len first second kept =
+pub kept_end : (bytes : List ℕ) (same first_end len : ℕ) (first : List ℕ) → IsKept bytes same first_end len first
+    → len ≡ first_end + (length first + 4)
+kept_end bytes same first_end len first kept =
     let all = sym (length-take-le len bytes (omega (arith, kept.end_fits, kept.enough))) ∙ ap length kept.bytes_are in
     let start = length-take-le same bytes (omega (arith, kept.enough)) in
-    let whole = fronted_long [] (take same bytes) first second kept.first_four kept.second_four kept.first_long kept.second_long in
+    let whole = fronted_long [] (take same bytes) first first kept.first_four kept.second_four kept.first_long kept.second_long in
     omega (arith, all, start, whole, kept.end_is)

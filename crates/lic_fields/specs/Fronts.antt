@@ -25,14 +25,14 @@ pub record IsThousand (least : ℕ) (digits : List (List ℕ)) : Type 0 where
   pub few : length digits ≤ 1000
   pub ends : (k : ℕ) → k < length digits → EndsField (first_digits least) (get_or digits k []) (least + k)
 
--- the bytes that are the same in all, and after them two numbers as fields, each first digits and what ends it; and then enough
--- bytes that a block can be copied
-pub record IsKept (bytes : List ℕ) (same first_end len : ℕ) (first second : List ℕ) : Type 0 where
+-- the bytes that are the same in all, and after them two numbers as fields, which have the same first digits and what ends each; and
+-- then enough bytes that a block can be copied
+pub record IsKept (bytes : List ℕ) (same first_end len : ℕ) (first : List ℕ) : Type 0 where
   pub first_four : List ℕ
   pub second_four : List ℕ
   pub first_long : length first_four ≡ 4
   pub second_long : length second_four ≡ 4
-  pub bytes_are : take len bytes ≡ take same bytes ++ ((first ++ first_four) ++ (second ++ second_four))
+  pub bytes_are : take len bytes ≡ take same bytes ++ ((first ++ first_four) ++ (first ++ second_four))
   pub end_is : first_end ≡ same + (length first + 4)
   pub end_fits : len ≤ same + 42
   pub enough : same + 170 ≤ length bytes

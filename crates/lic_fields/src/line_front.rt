@@ -124,9 +124,8 @@ pub struct LineFront {
     first_end: usize,
     // where both fields end
     len: usize,
-    // the numbers that differ from the first in their last three digits alone, and those that differ so from the second
-    first: Thousand,
-    second: Thousand,
+    // the numbers that differ from both in their last three digits alone
+    thousand: Thousand,
 }
 
 impl Model for LineFront {
@@ -137,7 +136,7 @@ impl Model for LineFront {
 
     ghost view = { λ f. take f.same f.bytes.items };
 
-    ghost invariant = { λ f. IsKept f.bytes.items f.same f.first_end f.len f.first f.second };
+    ghost invariant = { λ f. IsKept f.bytes.items f.same f.first_end f.len f.thousand };
 }
 
 impl LineFront {
@@ -153,8 +152,7 @@ impl LineFront {
             same,
             first_end,
             len,
-            first: Thousand::hundreds(),
-            second: Thousand::hundreds(),
+            thousand: Thousand::hundreds(),
         })
     }
 
@@ -176,8 +174,8 @@ impl LineFront {
             ++ (self.old ++ (field (decimal first) 0x09 ++ (field (decimal second) 0x09
             ++ field (escaped (take len text.now)) 0x0A)))) }
     {
-        if let Some(one) = self.first.digits_of(first)
-            && let Some(two) = self.second.digits_of(second)
+        if let Some(one) = self.thousand.digits_of(first)
+            && let Some(two) = self.thousand.digits_of(second)
             && is_short(text, len)
         {
             let first_four = u8x4::from_slice(one);
@@ -217,20 +215,22 @@ impl LineFront {
 
     /// Whether two numbers differ from those that are kept in their last three digits alone.
     fn knows(&self, first: u64, second: u64) -> bool {
-        self.first.digits_of(first).is_some() && self.second.digits_of(second).is_some()
+        self.thousand.digits_of(first).is_some() && self.thousand.digits_of(second).is_some()
     }
 
-    /// Keeps two numbers, if both have three digits or more.
+    /// Keeps two numbers, if both have three digits or more and they differ in the last three alone.
     fn keep(&mut self, first: u64, second: u64)
         ensures { self.new ≡ self.old }
     {
-        let (Some(one), Some(two)) = (Thousand::of(first), Thousand::of(second)) else {
+        let Some(thousand) = Thousand::of(first) else {
+            return;
+        };
+        let Some(_digits) = thousand.digits_of(second) else {
             return;
         };
         let (first_end, len) = write_numbers(&mut self.bytes, self.same, first, second);
         self.first_end = first_end;
         self.len = len;
-        self.first = one;
-        self.second = two;
+        self.thousand = thousand;
     }
 }

@@ -6,8 +6,8 @@ use Rattle.lic_fields.proofs.line_front.LineFront.keep.Goals as goal
 
 pub invariant_of-self : goal.invariant_of-self
 invariant_of-self c =
-    let one = c.in-Some-Some.ensures in
-    let two = c.in-Some-Some.ensures' in
+    let one = c.in-Some.ensures in
+    let two = c.in-Some-digits_of.ensures in
     let kept = c.self.inside in
     let len = c.write_numbers-first_end.result.1 in
     let old = c.deref_mut.result.now in
@@ -16,9 +16,9 @@ invariant_of-self c =
     let enough = c.self.invariant.enough in
     let held = with_items_is kept.bytes bytes (omega (arith, c.write_numbers-first_end.auto, c.deref_mut.ensures.len)) in
     let long : length bytes ≡ length old = c.write_numbers-first_end.ensures.len in
-    subst (λ b. IsKept b kept.same c.write_numbers-first_end.result.0 len c.in-Some-Some.one c.in-Some-Some.two) (sym held)
+    subst (λ b. IsKept b kept.same c.write_numbers-first_end.result.0 len c.in-Some.thousand) (sym held)
     (kept_of old bytes kept.same len c.args.first c.args.second (omega (arith, start, enough)) (omega (arith, start, enough, long, c.write_numbers-first_end.ensures.end))
-    c.write_numbers-first_end.ensures.written c.write_numbers-first_end.result.0 _ _ one.0 two.0 one.1 two.1
+    c.write_numbers-first_end.ensures.written c.write_numbers-first_end.result.0 c.in-Some.thousand one.0 c.in-Some-digits_of._digits.now one.1 two
     c.write_numbers-first_end.ensures.first c.write_numbers-first_end.ensures.end (omega (arith, start, enough, long)))
 
 pub returns : goal.returns

@@ -18,9 +18,9 @@ invariant_of-result c =
     let held = with_items_is c.extend_from_slice.new.self bytes (omega (arith, c.write_numbers-first_end.auto, c.deref_mut.ensures.len)) in
     let long : length bytes ≡ length old = c.write_numbers-first_end.ensures.len in
     let hundred = ends_three 100 (omega arith) (omega arith) in
-    rw (held, c.hundreds.ensures, c.hundreds-2.ensures)
+    rw (held, c.hundreds.ensures)
     (kept_of old bytes same len 100 100 (omega (arith, start, more)) (omega (arith, start, more, long, c.write_numbers-first_end.ensures.end))
-    c.write_numbers-first_end.ensures.written c.write_numbers-first_end.result.0 [] [] (last_digits 100) (last_digits 100) hundred hundred
+    c.write_numbers-first_end.ensures.written c.write_numbers-first_end.result.0 [] (last_digits 100) (last_digits 100) hundred hundred
     c.write_numbers-first_end.ensures.first c.write_numbers-first_end.ensures.end (omega (arith, start, more, long)))
 
 pub returns : goal.returns
