@@ -135,9 +135,10 @@ impl Columns {
         ensures one { (k : ℕ) → at ≤ k → k + 1 < result → flag_at self.now.feed k ≡ false }
         ensures ended { result < length self.now.feed → (at < result) × (flag_at self.now.feed (result - 1) ≡ true) }
     {
-        match first_set(&self.feed, at, self.feed.len()) {
+        let end = self.feed.len();
+        match first_set(&self.feed, at) {
             Some(feed) => feed + 1,
-            None => self.feed.len(),
+            None => end,
         }
     }
 
