@@ -215,7 +215,7 @@ impl<'a> Stretch<'a> {
     }
 
     /// Whether it, which is `(`, the next and the one after that are a copyright sign.
-    #[inline(never)]
+    #[inline(always)]
     fn ends_sign(&self, i: usize) -> bool
         requires within { i < length self.now }
         requires parenthesis { (d : _) → is_text (codes "(") (slice_index_or self.now i d) ≡ true }

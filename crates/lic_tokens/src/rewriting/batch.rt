@@ -130,7 +130,7 @@ pub(crate) fn plain_text<'a>(phrases: &Phrases, stretch: &Stretch<'a>, i: usize)
 }
 
 /// The same by the text.
-#[inline(never)]
+#[inline(always)]
 fn plain_after_look<'a>(phrases: &Phrases, stretch: &Stretch<'a>, i: usize) -> Option<&'a [u8]>
     requires { i < length stretch.now }
     ensures text { IfSome result (λ text. (d : _) → text.now ≡ (slice_index_or stretch.now i d).text) }
