@@ -175,7 +175,7 @@ pub(crate) fn spell(
         return state;
     }
     while state.count < most {
-        state = spell_plain(rewriting, stretch, i, most, before, state, batch);
+        spell_plain(rewriting, stretch, i, most, before, &mut state, batch);
         if state.count >= most {
             return state;
         }
@@ -204,20 +204,20 @@ fn spell_plain(
     i: usize,
     most: usize,
     before: usize,
-    from: Spelled,
+    state: &mut Spelled,
     batch: &mut Batch,
-) -> Spelled
-    requires order { from.count ≤ most }
+)
+    requires order { state.old.count ≤ most }
     requires within { i + most ≤ length stretch.now }
     requires few { most ≤ TOKENS }
     requires before { before ≡ length (spelled (texts_of rewriting.now.tokens)) }
     requires fits { before ≤ MAX_BEFORE }
     requires none { rewriting.now.rewriter ≡ nothing_kept }
     requires texts { HaveTexts stretch.now }
-    requires held { AreInBatch stretch.now i rewriting.now batch.old from }
-    ensures grown { from.count ≤ result.count }
-    ensures within { result.count ≤ most }
-    ensures held { AreInBatch stretch.now i rewriting.now batch.new result }
+    requires held { AreInBatch stretch.now i rewriting.now batch.old state.old }
+    ensures grown { state.old.count ≤ state.new.count }
+    ensures within { state.new.count ≤ most }
+    ensures held { AreInBatch stretch.now i rewriting.now batch.new state.new }
 {
     let phrases = rewriting.phrases;
     let tokens = stretch.rest(i);
@@ -225,7 +225,7 @@ fn spell_plain(
         mut count,
         mut place,
         mut after_word,
-    } = from;
+    } = *state;
     while count < most {
         let text = tokens.letters_of(count);
         let Some(letters) = tokens.wide_letters(count) else {
@@ -235,23 +235,23 @@ fn spell_plain(
             break;
         }
         let (start, end) = (tokens.start(count), tokens.end(count));
-        let state = Spelled {
+        let so_far = Spelled {
             count,
             place,
             after_word,
         };
         let next = put_token(
-            rewriting, stretch, i, before, text, letters, COPIED, start, end, state, batch,
+            rewriting, stretch, i, before, text, letters, COPIED, start, end, so_far, batch,
         );
         count = next.count;
         place = next.place;
         after_word = next.after_word;
     }
-    Spelled {
+    *state = Spelled {
         count,
         place,
         after_word,
-    }
+    };
 }
 
 /// Spells the next token, which has this text, is plain and short.

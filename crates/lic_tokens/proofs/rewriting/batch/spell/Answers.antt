@@ -36,7 +36,7 @@ loop-state-smaller c =
     omega (
       arith,
       c.loop-state-test.true,
-      c.spell_plain-state.ensures.grown,
-      c.spell_plain-state.ensures.within,
+      c.spell_plain.ensures.grown,
+      c.spell_plain.ensures.within,
       c.put_token-state.ensures.count,
     )

@@ -5,7 +5,7 @@ use Rattle.lic_tokens.proofs.rewriting.batch.spell_plain.Given as goal
 -- the tokens so far are in the batch
 abbrev pub invariant-loop-count : goal.invariant-loop-count
 invariant-loop-count l = record {
-  grown : l.fn.from.count ≤ l.count;
+  grown : l.fn.state.count ≤ l.count;
   within : l.count ≤ l.most;
   held : AreInBatch l.stretch l.i l.rewriting l.batch (record { count = l.count; place = l.place; after_word = l.after_word });
 }
