@@ -11,3 +11,4 @@ pub mod StretchTokens
 pub mod LeftTokens
 pub mod TakenSteps
 pub mod BatchLemmas
+pub mod SliceLemmas

@@ -1,5 +1,5 @@
 //! What is kept of tokens beside their spelling.
-ghost use Rattle.std.specs.Prelude.{◌≡◌, ◌++◌, ◌∷◌, ◌-◌, ◌<◌, [], ℕ, length, slice_index_or, IfOk, IfSome, OnErr, OnOk};
+ghost use Rattle.std.specs.Prelude.{◌≡◌, ◌≢◌, ◌++◌, ◌∷◌, ◌-◌, ◌<◌, [], ℕ, length, slice_index_or, IfOk, IfSome, None, OnErr, OnOk};
 ghost use Rattle.lic_tokens.specs.Entries.{AreNear, Entry, entries_by};
 
 use std::alloc::{AllocError, Global};
@@ -145,6 +145,19 @@ impl Entries {
             return Some((self.near[before] as usize, self.near[i] as usize));
         }
         None
+    }
+
+    /// Where all texts end, and the bytes of the source, if 32 bits say where.
+    #[inline(always)]
+    pub(crate) fn near(&self) -> Option<(&[u32], &[SourceBytes])>
+        ensures paired { IfSome result (λ near. length near.0.now ≡ length near.1.now) }
+        ensures entries { IfSome result (λ near. entries_by near.0.now near.1.now ≡ self.now) }
+        ensures all { AreNear self.now → result ≢ None }
+    {
+        if !self.far.is_empty() {
+            return None;
+        }
+        Some((self.near.as_slice(), self.sources.as_slice()))
     }
 
     /// The bytes of the source of the token number `i`.

@@ -6,6 +6,7 @@ mod rewriting;
 mod stretch;
 mod token;
 mod token_list;
+mod token_slices;
 mod word_bytes;
 
 pub use rewriting::batch::Batch;
@@ -13,3 +14,4 @@ pub use rewriting::{PartBuffers, Rewriting};
 pub use stretch::Stretch;
 pub use token::{Span, Token};
 pub use token_list::{TokenList, utf8_text};
+pub use token_slices::TokenSlices;

@@ -1,11 +1,12 @@
 //! Tokens as they are kept.
-ghost use Rattle.std.specs.Prelude.{◌≡◌, ◌^◌, ◌<◌, ◌++◌, ◌∷◌, [], All, IsUtf8, length, map, slice_index_or, IfOk, List, OnOk};
+ghost use Rattle.std.specs.Prelude.{◌≡◌, ◌≢◌, ◌^◌, ◌<◌, ◌++◌, ◌∷◌, [], All, IsUtf8, length, map, slice_index_or, IfOk, IfSome, List, None, OnOk};
 ghost use Rattle.lic_phrases.specs.Spelling.{begins_in_word, ends_in_word, spelled};
 ghost use Rattle.lic_phrases.specs.TokenTexts.{IsTokenText};
 ghost use Rattle.lic_phrases.specs.Waiting.{AreKnown, spanned_in};
 
 use crate::entries::{Entries, SourceBytes};
 use crate::token::{Span, Token};
+use crate::token_slices::{TokenSlices, start_after};
 use lic_kind::is_word;
 use lic_phrases::{FinalToken, Phrases, begins_in_word, ends_in_word};
 use simdutf8::compat::from_utf8;
@@ -83,7 +84,8 @@ impl TokenList {
     ghost use Rattle.lic_tokens.specs.Places.{place_end, place_start, texts_of};
     ghost use Rattle.lic_tokens.specs.Tokens.{AreTokenTexts, TokenValue, reported};
     ghost use Rattle.lic_tokens.specs.Batches.{AreSpelledAfter, HasSpelled};
-    ghost use Rattle.lic_tokens.specs.Entries.{entries_by, text_from};
+    ghost use Rattle.lic_tokens.specs.Entries.{entries_by};
+    ghost use Rattle.lic_tokens.specs.Slices.{sliced_tokens};
 
     /// No tokens.
     pub fn new(alloc: Global) -> TokenList
@@ -265,7 +267,7 @@ impl TokenList {
     {
         if let Some((before, end)) = self.entries.near_ends(i) {
             return Span {
-                start: self.start_after(before),
+                start: start_after(&self.spelling, before),
                 end,
             };
         }
@@ -285,22 +287,8 @@ impl TokenList {
             return Span { start: 0, end };
         }
         Span {
-            start: self.start_after(self.entries.text_end(i - 1)),
+            start: start_after(&self.spelling, self.entries.text_end(i - 1)),
             end,
-        }
-    }
-
-    /// Where the text begins before which one ends at this place of the spelling: there, or after the blank that is there, since no text
-    /// begins with a blank.
-    #[inline(always)]
-    fn start_after(&self, end: usize) -> usize
-        requires { end < length (spelled (texts_of self.now)) }
-        ensures { result ≡ text_from (spelled (texts_of self.now)) end }
-    {
-        if self.spelling[end] == b' ' {
-            end + 1
-        } else {
-            end
         }
     }
 
@@ -328,6 +316,20 @@ impl TokenList {
             text: utf8_text(&self.spelling[start..end]),
             span: self.span(i),
         }
+    }
+
+    /// The tokens as slices, if 32 bits say where each text ends.
+    #[inline(always)]
+    pub fn slices(&self) -> Option<TokenSlices<'_>>
+        ensures tokens { IfSome result (λ t. sliced_tokens t ≡ self.now) }
+        ensures near { length (spelled (texts_of self.now)) < 2 ^ 32 → result ≢ None }
+    {
+        let (ends, sources) = self.entries.near()?;
+        Some(TokenSlices {
+            spelling: &self.spelling,
+            ends,
+            sources,
+        })
     }
 
     /// The texts of the tokens are in UTF-8.

@@ -1,7 +1,5 @@
-use Rattle.std.proofs.Common.{◌-◌, List, ℕ, get_or, length, ap, sym, subst, ◌∙◌, arith}
-use Rattle.lic_phrases.specs.Spelling.{spelled}
+use Rattle.std.proofs.Common.{◌-◌, length, ap, ap₂, subst, ◌∙◌, arith}
 use Rattle.lic_tokens.specs.Entries.{IsKept, text_from}
-use Rattle.lic_tokens.specs.Places.{texts_of}
 use Rattle.lic_tokens.proofs.EntriesBy.{no_entry}
 use Rattle.lic_tokens.proofs.EntryLemmas.{AreEntries-length, end_inside, end_is, start_is}
 use Rattle.lic_tokens.proofs.token_list.TokenList.place.Goals as goal
@@ -18,7 +16,6 @@ start_after-requires c =
       arith,
       c.in-Some.ensures.before no_entry,
       end_inside spelling entries c.args.self.now c.args.i (c.args.i - 1) no_entry kept (omega (arith, c.in-Some.ensures.some)) c.requires,
-      ap length kept.spells,
     )
 
 pub returns-in-Some-clause-start : goal.returns-in-Some-clause-start
@@ -27,8 +24,7 @@ returns-in-Some-clause-start c =
     let entries = c.self.inside.entries in
     let kept = subst (IsKept spelling entries) c.self.view_is c.self.invariant.0 in
     c.start_after.ensures
-    ∙ ap (text_from (spelled (texts_of c.args.self.now))) (c.in-Some.ensures.before no_entry)
-    ∙ ap (λ (l : List ℕ). text_from l (get_or entries (c.args.i - 1) no_entry).text_end) (sym kept.spells)
+    ∙ ap₂ text_from c.deref.ensures.value (c.in-Some.ensures.before no_entry)
     ∙ start_is spelling entries c.args.self.now c.args.i (c.args.i - 1) no_entry kept (omega (arith, c.in-Some.ensures.some)) c.requires
 
 pub returns-in-Some-clause-end : goal.returns-in-Some-clause-end

@@ -1,7 +1,5 @@
-use Rattle.std.proofs.Common.{◌-◌, List, ℕ, get_or, length, ap, sym, subst, ◌∙◌, arith}
-use Rattle.lic_phrases.specs.Spelling.{spelled}
+use Rattle.std.proofs.Common.{◌-◌, length, ap, ap₂, subst, ◌∙◌, arith}
 use Rattle.lic_tokens.specs.Entries.{IsKept, text_from}
-use Rattle.lic_tokens.specs.Places.{texts_of}
 use Rattle.lic_tokens.proofs.EntriesBy.{no_entry}
 use Rattle.lic_tokens.proofs.EntryLemmas.{AreEntries-length, end_inside, end_is, first_start, start_is}
 use Rattle.lic_tokens.proofs.token_list.TokenList.place_apart.Goals as goal
@@ -21,7 +19,6 @@ start_after-requires c =
       arith,
       c.text_end.ensures no_entry,
       end_inside spelling entries c.args.self.now c.args.i (c.args.i - 1) no_entry kept (omega (arith, c.if-i-eq0.false)) c.requires,
-      ap length kept.spells,
     )
 
 pub returns-then-i-eq0-clause-start : goal.returns-then-i-eq0-clause-start
@@ -40,8 +37,7 @@ returns-clause-start c =
     let entries = c.self.inside.entries in
     let kept = subst (IsKept spelling entries) c.self.view_is c.self.invariant.0 in
     c.start_after.ensures
-    ∙ ap (text_from (spelled (texts_of c.args.self.now))) (c.text_end.ensures no_entry)
-    ∙ ap (λ (l : List ℕ). text_from l (get_or entries (c.args.i - 1) no_entry).text_end) (sym kept.spells)
+    ∙ ap₂ text_from c.deref.ensures.value (c.text_end.ensures no_entry)
     ∙ start_is spelling entries c.args.self.now c.args.i (c.args.i - 1) no_entry kept (omega (arith, c.if-i-eq0.false)) c.requires
 
 pub returns-clause-end : goal.returns-clause-end
