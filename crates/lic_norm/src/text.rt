@@ -1,6 +1,6 @@
 //! A source and its tokens.
 
-ghost use Rattle.std.specs.Prelude.{◌≡◌, ◌<◌, ◌≤◌, ◌≢◌, ◌^◌, [], All, IsUtf8, length, slice_range, slice_index_or, IfOk, IfErr, OnOk, Some, None};
+ghost use Rattle.std.specs.Prelude.{◌≡◌, ◌<◌, ◌≤◌, ◌≢◌, ◌^◌, [], All, IsUtf8, length, slice_range, slice_index_or, IfOk, IfErr, IfSome, OnOk, Some, None};
 ghost use Rattle.lic_norm.specs.Spans.{AreSpans};
 ghost use Rattle.lic_tokens.specs.Tokens.{AreTokenTexts};
 
@@ -11,7 +11,7 @@ use crate::refusal::check_length;
 use crate::words::Words;
 use lic_lines::Rules;
 use lic_phrases::laws::spellings_are_token_texts;
-use lic_tokens::{Span, Token, TokenList};
+use lic_tokens::{Span, Token, TokenList, TokenSlices};
 use std::alloc::{AllocError, Global};
 use std::marker::Model;
 
@@ -40,6 +40,7 @@ impl Text {
     ghost use Rattle.lic_kind.specs.LineRules.{rules_of};
     ghost use Rattle.lic_tokens.specs.Taking.{listed_by, phrases_of};
     ghost use Rattle.lic_tokens.specs.Places.{place_end, place_start, texts_of};
+    ghost use Rattle.lic_tokens.specs.Slices.{sliced_tokens};
     ghost use Rattle.lic_norm.specs.Reading.{HasRead, HasReadLines};
     ghost use Rattle.lic_norm.specs.Refusal.{refusal_of};
     ghost use Rattle.lic_norm.specs.Tokens.{tokens_of};
@@ -168,6 +169,16 @@ impl Text {
         ensures end { result.end ≡ place_end self.now.tokens i }
     {
         self.tokens.place(i)
+    }
+
+    /// The tokens as slices, for a loop that writes while it reads them. None of a text in whose canonical spelling 32 bits do not say
+    /// where each token's text ends.
+    #[inline(always)]
+    pub fn slices(&self) -> Option<TokenSlices<'_>>
+        ensures tokens { IfSome result (λ t. sliced_tokens t ≡ self.now.tokens) }
+        ensures near { length (spelled (texts_of self.now.tokens)) < 2 ^ 32 → result ≢ None }
+    {
+        self.tokens.slices()
     }
 
     /// The bytes that were read.
