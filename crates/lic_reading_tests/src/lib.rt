@@ -14,4 +14,6 @@ mod random;
 #[cfg(test)]
 mod shown;
 #[cfg(test)]
+mod slices;
+#[cfg(test)]
 mod worked;
