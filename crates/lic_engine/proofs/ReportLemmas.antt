@@ -1,18 +1,20 @@
 -- Lemmas on matches that are asked for, and on their lines.
-use Rattle.std.proofs.Common.{◌≡◌, ℕ, ◌+◌, ◌<◌, ◌≤◌, List, [], ◌∷◌, ◌++◌, take, length, Option, Bool, true, refl, sym, ◌∙◌, ap, arith, nat_lt, length-append, subst, Result, Ok, Err, IfOk, OnErr}
-use Rattle.std.proofs.lemmas.Grind.{common_steps}
+use Rattle.std.proofs.Common.{◌≡◌, ℕ, ◌+◌, ◌-◌, ◌<◌, ◌≤◌, List, [], ◌∷◌, ◌++◌, take, length, Option, Bool, true, refl, sym, ◌∙◌, ap, arith, nat_lt, append_assoc, length-append, subst, Result, Ok, Err, IfOk, OnErr}
+use Rattle.std.proofs.lemmas.Grind.{common_steps, flat_map-append}
 use Rattle.std.proofs.lemmas.Bool.Decides.{nat_tests}
-use Rattle.std.proofs.lemmas.List.{take_more, take_all}
-use Rattle.std.specs.List.{flat_map, slice_index_or}
+use Rattle.std.proofs.lemmas.List.{take_all}
+use Rattle.std.specs.List.{flat_map, slice_range}
+use Rattle.std.proofs.Math.Seq.{take-add}
 use Rattle.std.specs.Io.KnownBytes.{Appends}
 use Rattle.lic_norm.specs.Tokens.{TokenValue}
 use Rattle.lic_set.specs.Sets.{Known}
 use Rattle.lic_set.specs.Matches.{AreMatches}
 use Rattle.lic_set.specs.declared.triple.Triple.{Triple}
 use Rattle.lic_stream.specs.Stream.{BeginsWith}
-use Rattle.lic_fields.specs.Fields.{escaped}
-use Rattle.lic_report.specs.Report.{match_line, token_line, token_lines, no_token, first_of, AreAllLines, AreLines}
-use Rattle.lic_stream.proofs.Written.{IsPut, put_line, put_whole}
+use Rattle.lic_fields.specs.Fields.{escaped, field}
+use Rattle.lic_report.specs.Report.{match_line, token_line, token_lines, first_of, AreAllLines, AreLines}
+use Rattle.lic_report.specs.TokenLines.{lines_between}
+use Rattle.lic_stream.proofs.Written.{IsPut, put_whole}
 use Rattle.lic_find.specs.declared.ask.Ask.{Ask}
 
 pub some_more : {X : Type 0} (xs : List X) (x : X) → true ≡ nat_lt 0 (length (xs ++ x ∷ []))
@@ -85,15 +87,22 @@ token_long name t =
 pub some_tokens : (name : List ℕ) (tokens : List TokenValue) → nat_lt 0 (length tokens) ≡ nat_lt 0 (length (token_lines name tokens))
 some_tokens name tokens = some_lines (token_line name) tokens (token_long name)
 
--- the line of the next token is gathered
-pub put_token : (name : List ℕ) (tokens : List TokenValue) (i : ℕ) (a b : Option (List ℕ)) (gathered more : List ℕ)
-    → IsPut a b gathered (token_lines name (take i tokens)) → i < length tokens
-    → more ≡ gathered ++ token_line name (slice_index_or tokens i no_token)
-    → IsPut a b more (token_lines name (take (i + 1) tokens))
-put_token name tokens i a b gathered more p h line =
-    let put : IsPut a b more (flat_map (token_line name) (take i tokens ++ slice_index_or tokens i no_token ∷ [])) =
-    put_line (token_line name) (take i tokens) (slice_index_or tokens i no_token) a b gathered more p line in
-    subst (λ ts. IsPut a b more (token_lines name ts)) (sym (take_more tokens i no_token h)) put
+-- the lines of the next tokens are gathered
+pub put_some : (name : List ℕ) (tokens : List TokenValue) (i j : ℕ) (a b : Option (List ℕ)) (gathered more : List ℕ)
+    → IsPut a b gathered (token_lines name (take i tokens)) → i ≤ j
+    → more ≡ gathered ++ lines_between (field (escaped name) 0x09) tokens i j
+    → IsPut a b more (token_lines name (take j tokens))
+put_some name tokens i j a b gathered more p order lines =
+    let all : take j tokens ≡ take i tokens ++ slice_range tokens i j =
+    ap (λ n. take n tokens) (omega (arith, order)) ∙ take-add i (j - i) tokens in
+    record {
+      put = p.put;
+      appends = p.appends;
+      whole = ap (token_lines name) all
+          ∙ (flat_map-append (token_line name) (take i tokens) (slice_range tokens i j)
+          ∙ (ap (λ l. l ++ lines_between (field (escaped name) 0x09) tokens i j) p.whole
+          ∙ (append_assoc p.put gathered (lines_between (field (escaped name) 0x09) tokens i j) ∙ ap (λ l. p.put ++ l) (sym lines))));
+    }
 
 -- the lines of all tokens are put
 pub put_tokens : (name : List ℕ) (tokens : List TokenValue) (i : ℕ) (a b c : Option (List ℕ)) (gathered : List ℕ)

@@ -13,11 +13,11 @@ use crate::fault::RunFault;
 use crate::input::read_text;
 use crate::memory::Memory;
 use crate::outer::report_outer;
-use lic_fields::{LineBuffer, LineFront};
+use lic_fields::LineBuffer;
 use lic_find::Ask;
 use lic_kind::Rules;
 use lic_norm::{Text, TextFault, Words};
-use lic_report::{MatchLines, Wanted, add_file, add_token};
+use lic_report::{MatchLines, TokenLines, Wanted};
 use lic_set::Set;
 use lic_stream::{Sink, Source, WriteFailed, put_all, put_gathered};
 use std::alloc::Global;
@@ -166,13 +166,10 @@ fn report_tokens<W: Sink>(
     ensures writes { CountsWrites result (W.failed out.old) (W.failed out.new) }
     ensures faults { IsOfWriting result }
 {
-    let mut file = Vec::new(alloc);
-    add_file(&mut file, name)?;
-    let mut front = LineFront::new(file)?;
     lines.clear();
     lines.reserve(GATHERED)?;
-    for i in 0..text.len() {
-        add_token(lines, &mut front, text, i)?;
+    let mut token_lines = TokenLines::new(alloc, name, text)?;
+    while token_lines.add_some(lines)? {
         put_enough(out, lines)?;
     }
     put_all(out, lines.as_slice())?;

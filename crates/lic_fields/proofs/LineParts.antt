@@ -2,7 +2,6 @@
 use Rattle.std.proofs.Common.{◌≡◌, ℕ, ◌+◌, ◌-◌, ◌≤◌, List, [], ◌∷◌, ◌++◌, length, take, drop, set, sym, ap, ap₂, ◌∙◌, arith, append_assoc, length-append, length-drop}
 use Rattle.std.proofs.Math.Seq.{take-add, take-append-add, take-append_seam}
 use Rattle.std.proofs.lemmas.List.{length-take-le, take-append-le, take-take, take_more_set}
-use Rattle.lic_fields.specs.Fields.{escaped, field}
 use Rattle.std.proofs.lemmas.Simd.{length-put_chunk, put_chunk_is}
 use Rattle.std.specs.Simd.Lanes.{chunk, put_chunk}
 use borrow.Rule.Slice.PartMut.{put_mid}
@@ -51,11 +50,6 @@ parts_written bytes mid buffer x y rest same at fits low long is parts lens =
     ∙ ap (λ l. take same bytes ++ l)
     (ap (take (42 - at)) mid_is ∙ (take-take (42 - at) 42 (drop at buffer) (omega arith)
     ∙ (ap (take (42 - at)) parts ∙ both_taken x y rest (42 - at) (sym lens))))
-
--- a line that is cut after a text of which nothing is escaped
-pub line_cut : (bytes text : List ℕ) (end len : ℕ) → escaped (take len text) ≡ take len text
-    → take end bytes ++ (take len text ++ 0x0A ∷ []) ≡ take end bytes ++ field (escaped (take len text)) 0x0A
-line_cut bytes text end len plain = ap (λ l. take end bytes ++ field l 0x0A) (sym plain)
 
 -- bytes written at a place by lanes
 pub lanes_written : (bytes from : List ℕ) (place n : ℕ) → place + n ≤ length bytes → n ≤ length from

@@ -1,20 +1,25 @@
 //! Fields of an output line: texts with some bytes escaped, and decimal numbers.
 #![tactic(auto)]
 
-ghost use Rattle.std.specs.Prelude.{◌≡◌, ◌≤◌, ◌+◌, ◌++◌, [], ◌∷◌, false, OnOk, MatchOption, Some, decimal, drop, encode_utf8, length, take};
+ghost use Rattle.std.specs.Prelude.{◌≡◌, ◌≢◌, ◌<◌, ◌≤◌, ◌+◌, ◌++◌, [], ◌∷◌, false, true, OnOk, MatchOption, Some, decimal, drop, encode_utf8, length, slice_index, slice_range, take};
 ghost use Rattle.std.specs.Fmt.{WritesOnOk};
 ghost use Rattle.lic_fields.specs.Fields.{ArePlain, escaped_byte, escaped, field};
 
 mod last_digits;
 mod line_buffer;
 mod line_front;
+mod line_pattern;
 mod thousand;
 
 use itoa::{Buffer, write_digits};
 pub use line_buffer::LineBuffer;
 pub use line_front::LineFront;
+pub use line_pattern::LinePattern;
 use std::alloc::AllocError;
 use std::fmt;
+
+/// How many bytes are looked at together.
+const BLOCK: usize = 64;
 
 /// The most bytes of two numbers: 20 digits each, and a mark after it.
 pub(crate) const TWO_NUMBERS: usize = 42;
@@ -26,7 +31,8 @@ const FOUR_NUMBERS: usize = 84;
 /// other byte.
 fn escape_of(byte: u8) -> Option<&'static str>
     ensures { MatchOption result
-        (escaped_byte byte ≡ byte ∷ []) (λ text. escaped_byte byte ≡ text.now) }
+        (escaped_byte byte ≡ byte ∷ [])
+        (λ text. (escaped_byte byte ≡ text.now) × (length text.now ≡ 2)) }
 {
     match byte {
         b'\\' => Some("\\\\"),
@@ -35,6 +41,14 @@ fn escape_of(byte: u8) -> Option<&'static str>
         b'\t' => Some("\\t"),
         _ => None,
     }
+}
+
+/// Whether a field has this byte as it is.
+fn is_plain(byte: u8) -> bool
+    ensures plain { result ≡ true → escaped_byte byte ≡ byte ∷ [] }
+    ensures changed { result ≡ false → escaped_byte byte ≢ byte ∷ [] }
+{
+    escape_of(byte).is_none()
 }
 
 /// Whether a byte has to be looked at one by one: a backslash, and the bytes up to a carriage return, of which a tab and a line
@@ -48,7 +62,7 @@ fn may_be_escaped(byte: u8) -> bool
 
 /// Whether one of these bytes has to be looked at. Most texts have none, so all are tested without a branch.
 #[inline(always)]
-pub(crate) fn has_escaped(bytes: &[u8]) -> bool
+fn has_escaped(bytes: &[u8]) -> bool
     ensures { result ≡ false → ArePlain bytes.now }
 {
     let mut found = false;
@@ -56,6 +70,35 @@ pub(crate) fn has_escaped(bytes: &[u8]) -> bool
         found = found | may_be_escaped(*byte);
     }
     found
+}
+
+/// Goes on from `from` by 64 bytes, while none of them has to be looked at.
+#[inline(never)]
+fn plain_blocks(bytes: &[u8], from: usize) -> usize
+    requires { from ≤ length bytes.now }
+    ensures order { (from ≤ result) × (result ≤ length bytes.now) }
+    ensures plain { ArePlain (slice_range bytes.now from result) }
+{
+    let mut at = from;
+    while bytes.len() - at >= BLOCK && !has_escaped(&bytes[at..at + BLOCK]) {
+        at += BLOCK;
+    }
+    at
+}
+
+/// The place of the first byte from `from` on that a field must not have as it is; the length where there is none.
+pub fn next_escaped(bytes: &[u8], from: usize) -> usize
+    requires { from ≤ length bytes.now }
+    ensures order { (from ≤ result) × (result ≤ length bytes.now) }
+    ensures plain { ArePlain (slice_range bytes.now from result) }
+    ensures found { result < length bytes.now
+        → escaped_byte (slice_index bytes.now result) ≢ slice_index bytes.now result ∷ [] }
+{
+    let mut at = plain_blocks(bytes, from);
+    while at < bytes.len() && is_plain(bytes[at]) {
+        at += 1;
+    }
+    at
 }
 
 fn add_escaped_byte(line: &mut Vec<u8>, byte: u8) -> Result<(), AllocError>

@@ -3,6 +3,7 @@
 ghost use Rattle.std.specs.Prelude.{◌≡◌, ◌<◌, ◌≤◌, ◌+◌, ◌^◌, ◌++◌, [], length, replicate, take, OnErr, OnOk, decimal};
 ghost use Rattle.lic_fields.specs.Fields.{escaped, field};
 
+use crate::line_pattern::LONGEST;
 use crate::{add_text, add_two_numbers};
 use std::alloc::{AllocError, Global};
 use std::marker::Model;
@@ -14,10 +15,10 @@ const SPARE: usize = 8_192;
 /// question for memory.
 #[derive(Debug, Drop)]
 pub struct LineBuffer {
-    // the lines, and then any bytes
-    pub(crate) bytes: Vec<u8>,
-    // how many bytes the lines have
-    pub(crate) len: usize,
+    /// The lines, and then any bytes.
+    pub bytes: Vec<u8>,
+    /// How many bytes the lines have.
+    pub len: usize,
     // a line that is added field by field
     line: Vec<u8>,
 }
@@ -33,8 +34,7 @@ impl Model for LineBuffer {
 }
 
 /// Makes some bytes more, if fewer than `enough` come after the first `len`.
-#[inline(always)]
-pub(crate) fn make_space(bytes: &mut Vec<u8>, len: usize, enough: usize) -> Result<(), AllocError>
+fn make_space(bytes: &mut Vec<u8>, len: usize, enough: usize) -> Result<(), AllocError>
     requires within { len ≤ length bytes.old.items }
     requires few { enough < 2 ^ 63 }
     ensures front { take len bytes.new.items ≡ take len bytes.old.items }
@@ -48,7 +48,6 @@ pub(crate) fn make_space(bytes: &mut Vec<u8>, len: usize, enough: usize) -> Resu
 }
 
 /// Adds a number of zeros.
-#[inline(never)]
 fn make_longer(bytes: &mut Vec<u8>, count: usize) -> Result<(), AllocError>
     requires few { count < 2 ^ 63 }
     ensures added { OnOk result (bytes.new.items ≡ bytes.old.items ++ replicate count 0) }
@@ -125,7 +124,7 @@ impl LineBuffer {
         self.len = 0;
     }
 
-    /// Adds a line field by field: these bytes, two numbers and a text.
+    /// Adds a line field by field: these bytes, two numbers and a text. After it come enough bytes for a line that is written over them.
     pub(crate) fn add(
         &mut self,
         front: &[u8],
@@ -142,6 +141,7 @@ impl LineBuffer {
         make_space(&mut self.bytes, self.len, count)?;
         write_bytes(&mut self.bytes, self.len, &self.line);
         self.len += count;
+        make_space(&mut self.bytes, self.len, LONGEST)?;
         Ok(())
     }
 }

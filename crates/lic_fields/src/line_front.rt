@@ -1,32 +1,14 @@
 //! Lines that begin with the same bytes and two numbers, and end with a text.
 
-ghost use Rattle.std.specs.Prelude.{◌≡◌, ◌<◌, ◌≤◌, ◌+◌, ◌*◌, ◌^◌, ◌/◌, ◌%◌, ◌-◌, ◌∷◌, ◌++◌, [], true, IfOk, IsTrue, OnErr, OnOk, decimal, drop, length, replicate, take};
-ghost use Rattle.lic_fields.specs.Fields.{ArePlain, escaped, field};
+ghost use Rattle.std.specs.Prelude.{◌≡◌, ◌≤◌, ◌+◌, ◌++◌, IfOk, OnOk, decimal, length, take};
+ghost use Rattle.lic_fields.specs.Fields.{escaped, field};
 
-use crate::line_buffer::{LineBuffer, make_space};
+use crate::line_buffer::LineBuffer;
+use crate::line_pattern::{LONG, LinePattern};
 use crate::thousand::Thousand;
-use crate::{TWO_NUMBERS, has_escaped, write_number};
+use crate::{TWO_NUMBERS, write_number};
 use std::alloc::AllocError;
 use std::marker::Model;
-use std::simd::prelude::*;
-
-/// How many bytes of a text are copied at once: most texts have fewer.
-const COPIED: usize = 16;
-
-/// How many bytes of what a line begins with are copied at once, if they are enough.
-const SHORT: usize = 80;
-
-/// How many bytes are copied at once otherwise: most lines have fewer.
-const LONG: usize = 128;
-
-/// Writes four bytes so that they end at `end`.
-#[inline(always)]
-fn write_four(bytes: &mut [u8], end: usize, four: u8x4)
-    requires { (length four ≡ 4) × ((4 ≤ end) × (end ≤ length bytes.old)) }
-    ensures { bytes.new ≡ take (end - 4) bytes.old ++ (four ++ drop end bytes.old) }
-{
-    four.copy_to_slice(&mut bytes[end - 4..]);
-}
 
 /// Writes two numbers as fields after the first `same` bytes, a tab after each. Answers where the first field ends, and
 /// where both end.
@@ -46,74 +28,9 @@ fn write_numbers(bytes: &mut [u8], same: usize, first: u64, second: u64) -> (usi
     (same + (middle - at), same + (TWO_NUMBERS - at))
 }
 
-/// Copies 64 bytes to a place.
-#[inline(always)]
-fn copy_64(bytes: &mut [u8], place: usize, from: &[u8])
-    requires fits { place + 64 ≤ length bytes.old }
-    requires long { 64 ≤ length from.now }
-    ensures copied { take (place + 64) bytes.new ≡ take place bytes.old ++ take 64 from.now }
-    ensures len { length bytes.new ≡ length bytes.old }
-{
-    u8x64::from_slice(from).copy_to_slice(&mut bytes[place..]);
-}
-
-/// Copies 16 bytes to a place.
-#[inline(always)]
-fn copy_16(bytes: &mut [u8], place: usize, from: &[u8])
-    requires fits { place + 16 ≤ length bytes.old }
-    requires long { 16 ≤ length from.now }
-    ensures copied { take (place + 16) bytes.new ≡ take place bytes.old ++ take 16 from.now }
-    ensures len { length bytes.new ≡ length bytes.old }
-{
-    u8x16::from_slice(from).copy_to_slice(&mut bytes[place..]);
-}
-
-/// Writes the first `len` of these bytes at a place, and mostly some after them, so that nothing depends on how many they are.
-#[inline(always)]
-fn write_block(bytes: &mut [u8], place: usize, block: &[u8], len: usize)
-    requires long { 128 ≤ length block.now }
-    requires within { len ≤ length block.now }
-    requires fits { place + length block.now ≤ length bytes.old }
-    ensures written { take (place + len) bytes.new ≡ take place bytes.old ++ take len block.now }
-    ensures len { length bytes.new ≡ length bytes.old }
-{
-    if len <= SHORT {
-        copy_64(bytes, place, block);
-        copy_16(bytes, place + 64, &block[64..]);
-        return;
-    }
-    if len <= LONG {
-        copy_64(bytes, place, block);
-        copy_64(bytes, place + 64, &block[64..]);
-        return;
-    }
-    bytes[place..place + len].copy_from_slice(&block[..len]);
-}
-
-/// Whether the first `len` bytes of a text can be written as they are, with others after them: they are few, and none is escaped.
-#[inline(always)]
-fn is_short(text: &[u8], len: usize) -> bool
-    ensures short { IsTrue result → len ≤ 16 }
-    ensures long { IsTrue result → 16 ≤ length text.now }
-    ensures plain { IsTrue result → ArePlain (take 16 text.now) }
-{
-    len <= COPIED && text.len() >= COPIED && !has_escaped(&text[..COPIED])
-}
-
-/// Writes the first `len` bytes of a short text at `end`, and the line end after them.
-#[inline(always)]
-fn write_text(bytes: &mut [u8], end: usize, text: &[u8], len: usize)
-    requires { (len ≤ 16) × ((16 ≤ length text.now) × (end + 17 ≤ length bytes.old)) }
-    ensures written { take (end + len + 1) bytes.new
-        ≡ take end bytes.old ++ (take len text.now ++ 0x0A ∷ []) }
-    ensures len { length bytes.new ≡ length bytes.old }
-{
-    u8x16::from_slice(text).copy_to_slice(&mut bytes[end..]);
-    bytes[end + len] = b'\n';
-}
-
-/// Adds lines that begin with bytes that are the same in all, and two numbers as fields, a tab after each. What was written last is
-/// kept: the numbers of the next line mostly differ from it in their last three digits alone.
+/// What begins lines: bytes that are the same in all, and two numbers as fields, a tab after each. What was written last is kept: the
+/// numbers of the next line mostly differ from it in their last three digits alone, and it is then written over a copy
+/// (`LinePattern`).
 #[derive(Debug, Drop)]
 pub struct LineFront {
     // the bytes that are the same in all, and two numbers of three digits or more as fields; and then any, so that a block can be copied
@@ -156,46 +73,23 @@ impl LineFront {
         })
     }
 
-    /// Adds a line: the bytes that are the same in all, these numbers, and the first `len` bytes of a text. Mostly the numbers differ
-    /// from those before in their last three digits alone, the text is short, and bytes enough come after the lines: then it is written
-    /// over them.
+    /// What begins the lines, as it is now.
     #[inline(always)]
-    pub fn add_line(
-        &mut self,
-        lines: &mut LineBuffer,
-        first: u64,
-        second: u64,
-        text: &[u8],
-        len: usize,
-    ) -> Result<(), AllocError>
-        requires { len ≤ length text.now }
-        ensures same { OnOk result (self.new ≡ self.old) }
-        ensures line { OnOk result (lines.new ≡ lines.old
-            ++ (self.old ++ (field (decimal first) 0x09 ++ (field (decimal second) 0x09
-            ++ field (escaped (take len text.now)) 0x0A)))) }
+    pub fn pattern(&self) -> LinePattern<'_>
+        ensures { result ≡ self.now }
     {
-        if let Some(one) = self.thousand.digits_of(first)
-            && let Some(two) = self.thousand.digits_of(second)
-            && is_short(text, len)
-        {
-            let first_four = u8x4::from_slice(one);
-            let second_four = u8x4::from_slice(two);
-            make_space(&mut lines.bytes, lines.len, self.bytes.len())?;
-            let start = lines.len;
-            let end = start + self.len;
-            write_block(&mut lines.bytes, start, &self.bytes, self.len);
-            write_four(&mut lines.bytes, start + self.first_end, first_four);
-            write_four(&mut lines.bytes, end, second_four);
-            write_text(&mut lines.bytes, end, text, len);
-            lines.len = end + len + 1;
-            return Ok(());
+        LinePattern {
+            bytes: &self.bytes,
+            same: self.same,
+            first_end: self.first_end,
+            len: self.len,
+            thousand: self.thousand.copied(),
         }
-        self.add_anew(lines, first, second, &text[..len])
     }
 
     /// Adds a line field by field, and keeps its numbers where they are not known.
     #[inline(never)]
-    fn add_anew(
+    pub fn add_line(
         &mut self,
         lines: &mut LineBuffer,
         first: u64,

@@ -64,6 +64,17 @@ impl Thousand {
         })
     }
 
+    /// The same numbers.
+    #[inline(always)]
+    pub(crate) fn copied(&self) -> Thousand
+        ensures { result ≡ self.now }
+    {
+        Thousand {
+            least: self.least,
+            digits: self.digits,
+        }
+    }
+
     /// The last three digits of a number, and a tab after them. None for a number that is not among these: the difference is very great
     /// where it is less than the least.
     #[inline(always)]

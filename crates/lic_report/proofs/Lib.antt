@@ -5,3 +5,5 @@ mod AllMatchesLemmas
 mod ValueLemmas
 mod ReportLemmas
 mod TokenLemmas
+mod PlainLemmas
+mod LinesBetween

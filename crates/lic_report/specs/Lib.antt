@@ -1,4 +1,5 @@
 pub mod Report
+pub mod TokenLines
 pub mod Checking
 pub mod Merging
 pub mod Found

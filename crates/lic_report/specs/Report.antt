@@ -12,6 +12,7 @@ use Rattle.lic_filters.specs.Filters.{outer_of}
 use Rattle.lic_vars.specs.Values.{Assigned, AreValues}
 use Rattle.lic_find.specs.declared.ask.Ask.{Ask}
 use Rattle.lic_fields.specs.Fields.{escaped, field}
+use Rattle.lic_report.specs.TokenLines.{line_after}
 
 abbrev pub no_known : Known
 no_known = record { id = []; template = record { parts = []; weight = 0; original = [] } }
@@ -104,9 +105,7 @@ IsReport rules name set words ask input written = IsReportOf name set ask input 
 
 -- the line of a token: the file's name, its first byte and its end, and its text
 abbrev pub token_line : List ℕ → TokenValue → List ℕ
-token_line name t =
-    field (escaped name) 0x09 ++ (field (decimal t.span.start) 0x09
-    ++ (field (decimal t.span.end) 0x09 ++ field (escaped t.text) 0x0A))
+token_line name t = line_after (field (escaped name) 0x09) t
 
 -- the lines of tokens, in order
 abbrev pub token_lines : List ℕ → List TokenValue → List ℕ

@@ -6,42 +6,19 @@ ghost use Rattle.lic_fields.specs.Fields.{escaped, field};
 ghost use Rattle.lic_tokens.specs.declared.token.Span.{Span};
 ghost use Rattle.lic_vars.specs.Views.{value_of};
 ghost use Rattle.lic_report.specs.Checking.{check_line};
-ghost use Rattle.lic_report.specs.Report.{token_line, place_fields, value_line, no_known, no_token};
+ghost use Rattle.lic_report.specs.Report.{place_fields, value_line, no_known};
 
-use lic_fields::{LineBuffer, LineFront, add_number, add_text, add_two_numbers};
+use lic_fields::{add_number, add_text, add_two_numbers};
 use lic_norm::{Span, Text};
 use lic_set::Set;
 use lic_vars::Value;
 use std::alloc::AllocError;
 
 /// Adds the file's name, the first field of each line.
-pub fn add_file(lines: &mut Vec<u8>, name: &str) -> Result<(), AllocError>
+pub(crate) fn add_file(lines: &mut Vec<u8>, name: &str) -> Result<(), AllocError>
     ensures { OnOk result (lines.new.items ≡ lines.old.items ++ field (escaped name.now) 0x09) }
 {
     add_text(lines, name.as_bytes(), b'\t')
-}
-
-/// Adds the line of the token number `i`: the file, whose name as `add_file` writes it is the same in all lines, the first byte of
-/// the token and its end, and its text.
-#[inline(always)]
-pub fn add_token(
-    lines: &mut LineBuffer,
-    front: &mut LineFront,
-    text: &Text,
-    i: usize,
-) -> Result<(), AllocError>
-    requires { i < length text.now.tokens }
-    ensures same { OnOk result (front.new ≡ front.old) }
-    ensures line { OnOk result ((name : List ℕ) → front.old ≡ field (escaped name) 0x09
-        → lines.new ≡ lines.old
-        ++ token_line name (slice_index_or text.now.tokens i no_token)) }
-{
-    let span = text.span(i);
-    let Span { start, end } = text.place(i);
-    let letters = &text.spelled()[start..];
-    let len = end - start;
-    front.add_line(lines, span.start as u64, span.end as u64, letters, len)?;
-    Ok(())
 }
 
 /// Adds the start, the end and the bytes of a span of the text, or a dash where there is no span.

@@ -11,8 +11,9 @@ returns c =
     let whole : c.len-count.result ≡ length c.set_fields.new.line.items = grind (arith, common_steps) in
     let count : c.len-count.result ≡ length line = whole ∙ ap length (sym c.deref.ensures.value) in
     let held = with_items_is c.make_space.new.bytes bytes (omega (arith, c.write_bytes.auto, c.deref_mut.ensures.len)) in
-    ap (take (start + c.len-count.result)) held
+    c.make_space-2.ensures.front
+    ∙ (ap (take (start + c.len-count.result)) held
     ∙ (ap (λ n. take (start + n) bytes) count
     ∙ (c.write_bytes.ensures.written
     ∙ ap₂ (λ x y. x ++ y) (ap (take start) c.deref_mut.ensures.value ∙ (c.make_space.ensures.front ∙ c.self.view_is))
-    (c.deref.ensures.value ∙ c.in_ok-set_fields.ensures)))
+    (c.deref.ensures.value ∙ c.in_ok-set_fields.ensures))))

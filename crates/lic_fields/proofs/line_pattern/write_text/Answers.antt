@@ -1,5 +1,5 @@
 use Rattle.lic_fields.proofs.LineParts.{text_written}
-use Rattle.lic_fields.proofs.line_front.write_text.Goals as goal
+use Rattle.lic_fields.proofs.line_pattern.write_text.Goals as goal
 
 pub returns-clause-written : goal.returns-clause-written
 returns-clause-written c =

@@ -1,0 +1,152 @@
+//! A line written over a copy of what begins it.
+
+ghost use Rattle.std.specs.Prelude.{◌≡◌, ◌≤◌, ◌+◌, ◌-◌, ◌∷◌, ◌++◌, [], IfSome, None, decimal, drop, length, take};
+ghost use Rattle.lic_fields.specs.Fields.{ArePlain, escaped, field};
+
+use crate::thousand::Thousand;
+use std::marker::Model;
+use std::simd::prelude::*;
+
+/// How many bytes of a text are copied at once: most texts have fewer.
+const COPIED: usize = 16;
+
+/// How many bytes of what a line begins with are copied at once, if they are enough.
+const SHORT: usize = 80;
+
+/// How many bytes are copied at once otherwise: most lines have fewer.
+pub(crate) const LONG: usize = 128;
+
+/// How many bytes a line is written over: a copy, a text and the line end.
+pub(crate) const LONGEST: usize = 145;
+
+/// Writes four bytes so that they end at `end`.
+#[inline(always)]
+fn write_four(bytes: &mut [u8], end: usize, four: u8x4)
+    requires { (length four ≡ 4) × ((4 ≤ end) × (end ≤ length bytes.old)) }
+    ensures { bytes.new ≡ take (end - 4) bytes.old ++ (four ++ drop end bytes.old) }
+{
+    four.copy_to_slice(&mut bytes[end - 4..]);
+}
+
+/// Copies 64 bytes to a place.
+#[inline(always)]
+fn copy_64(bytes: &mut [u8], place: usize, from: &[u8])
+    requires fits { place + 64 ≤ length bytes.old }
+    requires long { 64 ≤ length from.now }
+    ensures copied { take (place + 64) bytes.new ≡ take place bytes.old ++ take 64 from.now }
+    ensures len { length bytes.new ≡ length bytes.old }
+{
+    u8x64::from_slice(from).copy_to_slice(&mut bytes[place..]);
+}
+
+/// Copies 16 bytes to a place.
+#[inline(always)]
+fn copy_16(bytes: &mut [u8], place: usize, from: &[u8])
+    requires fits { place + 16 ≤ length bytes.old }
+    requires long { 16 ≤ length from.now }
+    ensures copied { take (place + 16) bytes.new ≡ take place bytes.old ++ take 16 from.now }
+    ensures len { length bytes.new ≡ length bytes.old }
+{
+    u8x16::from_slice(from).copy_to_slice(&mut bytes[place..]);
+}
+
+/// Writes the first `len` of these bytes at a place, and some after them, so that the copy is of a fixed length.
+#[inline(always)]
+fn write_block(bytes: &mut [u8], place: usize, block: &[u8], len: usize)
+    requires short { len ≤ 128 }
+    requires long { 128 ≤ length block.now }
+    requires fits { place + 128 ≤ length bytes.old }
+    ensures written { take (place + len) bytes.new ≡ take place bytes.old ++ take len block.now }
+    ensures len { length bytes.new ≡ length bytes.old }
+{
+    if len <= SHORT {
+        copy_64(bytes, place, block);
+        copy_16(bytes, place + 64, &block[64..]);
+        return;
+    }
+    copy_64(bytes, place, block);
+    copy_64(bytes, place + 64, &block[64..]);
+}
+
+/// Writes the first `len` bytes of a short text at `end`, and the line end after them.
+#[inline(always)]
+fn write_text(bytes: &mut [u8], end: usize, text: &[u8], len: usize)
+    requires { (len ≤ 16) × ((16 ≤ length text.now) × (end + 17 ≤ length bytes.old)) }
+    ensures written { take (end + len + 1) bytes.new
+        ≡ take end bytes.old ++ (take len text.now ++ 0x0A ∷ []) }
+    ensures len { length bytes.new ≡ length bytes.old }
+{
+    u8x16::from_slice(text).copy_to_slice(&mut bytes[end..]);
+    bytes[end + len] = b'\n';
+}
+
+/// What begins the lines of a `LineFront` as it is now: a value that a loop keeps in registers while it writes lines.
+#[derive(Debug, Drop)]
+pub struct LinePattern<'a> {
+    // the bytes that are the same in all, and two numbers of three digits or more as fields; and then any, so that a block can be copied
+    pub(crate) bytes: &'a [u8],
+    // how many bytes are the same in all
+    pub(crate) same: usize,
+    // where the first of both fields ends
+    pub(crate) first_end: usize,
+    // where both fields end
+    pub(crate) len: usize,
+    // the numbers that differ from both in their last three digits alone
+    pub(crate) thousand: Thousand,
+}
+
+impl<'a> Model for LinePattern<'a> {
+    ghost use Rattle.std.specs.Prelude.{List, ℕ, take};
+    ghost use Rattle.lic_fields.specs.Fronts.{IsKept};
+
+    ghost Value = { List ℕ };
+
+    ghost view = { λ p. take p.same p.bytes.now };
+
+    ghost invariant = { λ p. IsKept p.bytes.now p.same p.first_end p.len p.thousand };
+}
+
+impl LinePattern<'_> {
+    /// Writes a line after the first `at` of these bytes: the bytes that are the same in all, these numbers, and the first `len` bytes
+    /// of a text, none of which is escaped. Answers where it ends. None, and nothing is written, where the numbers differ from those of
+    /// the pattern in more than their last three digits, where the text or what begins the line is long, or where the bytes are too
+    /// few.
+    #[inline(always)]
+    pub fn write_line(
+        &self,
+        bytes: &mut [u8],
+        at: usize,
+        first: u64,
+        second: u64,
+        text: &[u8],
+        len: usize,
+    ) -> Option<usize>
+        requires within { at ≤ length bytes.old }
+        requires fits { len ≤ length text.now }
+        requires plain { ArePlain (take len text.now) }
+        ensures stays { result ≡ None → bytes.new ≡ bytes.old }
+        ensures end { IfSome result (λ end. (at ≤ end) × (end ≤ length bytes.new)) }
+        ensures line { IfSome result (λ end. take end bytes.new ≡ take at bytes.old
+            ++ (self.now ++ (field (decimal first) 0x09 ++ (field (decimal second) 0x09
+            ++ field (escaped (take len text.now)) 0x0A)))) }
+        ensures len { length bytes.new ≡ length bytes.old }
+    {
+        if bytes.len() - at < LONGEST || len > COPIED || text.len() < COPIED || self.len > LONG {
+            return None;
+        }
+        let Some(one) = self.thousand.digits_of(first) else {
+            return None;
+        };
+        let Some(two) = self.thousand.digits_of(second) else {
+            return None;
+        };
+        let first_four = u8x4::from_slice(one);
+        let second_four = u8x4::from_slice(two);
+        let end = at + self.len;
+        write_block(bytes, at, self.bytes, self.len);
+        write_four(bytes, at + self.first_end, first_four);
+        write_four(bytes, end, second_four);
+        write_text(bytes, end, text, len);
+        Some(end + len + 1)
+    }
+}
