@@ -1,7 +1,7 @@
 //! Lines that are gathered before they are written.
 
-ghost use Rattle.std.specs.Prelude.{◌≡◌, ◌<◌, ◌≤◌, ◌+◌, ◌^◌, ◌++◌, [], length, replicate, take, OnErr, OnOk, decimal};
-ghost use Rattle.lic_fields.specs.Fields.{escaped, field};
+ghost use Rattle.std.specs.Prelude.{◌≡◌, ◌<◌, ◌≤◌, ◌+◌, ◌^◌, ◌++◌, [], true, length, replicate, take, OnErr, OnOk, decimal};
+ghost use Rattle.lic_fields.specs.Fields.{ArePlain, escaped, field};
 
 use crate::line_pattern::LONGEST;
 use crate::{add_text, add_two_numbers};
@@ -65,6 +65,19 @@ fn write_bytes(bytes: &mut [u8], place: usize, from: &[u8])
     bytes[place..place + from.len()].copy_from_slice(from);
 }
 
+/// Adds a text as a field, and the line end after it. A text that is said to be plain is not looked at.
+fn add_last(line: &mut Vec<u8>, text: &[u8], is_plain: bool) -> Result<(), AllocError>
+    requires { is_plain ≡ true → ArePlain text.now }
+    ensures { OnOk result (line.new.items ≡ line.old.items ++ field (escaped text.now) 0x0A) }
+{
+    if is_plain {
+        line.extend_from_slice(text)?;
+        line.push(b'\n')?;
+        return Ok(());
+    }
+    add_text(line, text, b'\n')
+}
+
 /// Puts a line, field by field, in the place of what is there: these bytes, two numbers and a text.
 fn set_fields(
     line: &mut Vec<u8>,
@@ -72,7 +85,9 @@ fn set_fields(
     first: u64,
     second: u64,
     text: &[u8],
+    is_plain: bool,
 ) -> Result<(), AllocError>
+    requires { is_plain ≡ true → ArePlain text.now }
     ensures { OnOk result (line.new.items
         ≡ front.now ++ (field (decimal first) 0x09 ++ (field (decimal second) 0x09
         ++ field (escaped text.now) 0x0A))) }
@@ -80,7 +95,7 @@ fn set_fields(
     line.clear();
     line.extend_from_slice(front)?;
     add_two_numbers(line, first, second)?;
-    add_text(line, text, b'\n')
+    add_last(line, text, is_plain)
 }
 
 impl LineBuffer {
@@ -131,12 +146,14 @@ impl LineBuffer {
         first: u64,
         second: u64,
         text: &[u8],
+        is_plain: bool,
     ) -> Result<(), AllocError>
+        requires { is_plain ≡ true → ArePlain text.now }
         ensures { OnOk result (self.new ≡ self.old
             ++ (front.now ++ (field (decimal first) 0x09 ++ (field (decimal second) 0x09
             ++ field (escaped text.now) 0x0A)))) }
     {
-        set_fields(&mut self.line, front, first, second, text)?;
+        set_fields(&mut self.line, front, first, second, text, is_plain)?;
         let count = self.line.len();
         make_space(&mut self.bytes, self.len, count)?;
         write_bytes(&mut self.bytes, self.len, &self.line);

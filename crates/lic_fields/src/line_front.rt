@@ -1,7 +1,7 @@
 //! Lines that begin with the same bytes and two numbers, and end with a text.
 
-ghost use Rattle.std.specs.Prelude.{◌≡◌, ◌≤◌, ◌+◌, ◌++◌, IfOk, OnOk, decimal, length, take};
-ghost use Rattle.lic_fields.specs.Fields.{escaped, field};
+ghost use Rattle.std.specs.Prelude.{◌≡◌, ◌≤◌, ◌+◌, ◌++◌, true, IfOk, OnOk, decimal, length, take};
+ghost use Rattle.lic_fields.specs.Fields.{ArePlain, escaped, field};
 
 use crate::line_buffer::LineBuffer;
 use crate::line_pattern::{LONG, LinePattern};
@@ -87,24 +87,22 @@ impl LineFront {
         }
     }
 
-    /// Adds a line field by field, and keeps its numbers where they are not known.
+    /// Adds a line field by field. A text that is said to be plain is not looked at for bytes that are escaped.
     #[inline(never)]
     pub fn add_line(
-        &mut self,
+        &self,
         lines: &mut LineBuffer,
         first: u64,
         second: u64,
         text: &[u8],
+        is_plain: bool,
     ) -> Result<(), AllocError>
-        ensures same { self.new ≡ self.old }
-        ensures line { OnOk result (lines.new ≡ lines.old
-            ++ (self.old ++ (field (decimal first) 0x09 ++ (field (decimal second) 0x09
+        requires plain { is_plain ≡ true → ArePlain text.now }
+        ensures { OnOk result (lines.new ≡ lines.old
+            ++ (self.now ++ (field (decimal first) 0x09 ++ (field (decimal second) 0x09
             ++ field (escaped text.now) 0x0A)))) }
     {
-        if !self.knows(first, second) {
-            self.keep(first, second);
-        }
-        lines.add(&self.bytes[..self.same], first, second, text)
+        lines.add(&self.bytes[..self.same], first, second, text, is_plain)
     }
 
     /// Whether two numbers differ from those that are kept in their last three digits alone.
@@ -112,10 +110,13 @@ impl LineFront {
         self.thousand.digits_of(first).is_some() && self.thousand.digits_of(second).is_some()
     }
 
-    /// Keeps two numbers, if both have three digits or more and they differ in the last three alone.
-    fn keep(&mut self, first: u64, second: u64)
+    /// Keeps two numbers, unless they are known, if both have three digits or more and they differ in the last three alone.
+    pub fn keep(&mut self, first: u64, second: u64)
         ensures { self.new ≡ self.old }
     {
+        if self.knows(first, second) {
+            return;
+        }
         let Some(thousand) = Thousand::of(first) else {
             return;
         };

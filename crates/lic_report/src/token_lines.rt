@@ -135,19 +135,22 @@ impl<'t> TokenLines<'t> {
         ensures lines { lines.new ≡ lines.old
             ++ lines_between self.old.front self.old.tokens self.old.added self.new.added }
     {
-        if self.added == 0 {
+        let i = self.added;
+        if i == 0 || i >= self.text.len() {
             return;
         }
         let Some(tokens) = self.text.slices() else {
             return;
         };
+        let span = self.text.span(i);
+        self.front.keep(span.start as u64, span.end as u64);
         let pattern = self.front.pattern();
         let (end, added) = write_lines(
             &mut lines.bytes,
             lines.len,
             &pattern,
             &tokens,
-            self.added,
+            i,
             self.plain_to,
         );
         lines.len = end;
@@ -178,6 +181,7 @@ impl<'t> TokenLines<'t> {
             span.start as u64,
             span.end as u64,
             &spelled[start..end],
+            end <= self.plain_to,
         )?;
         self.plain_to = plain_to;
         self.added = i + 1;
