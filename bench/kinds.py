@@ -37,10 +37,18 @@ def drawn(paths):
             yield path
 
 
+def decoded(line):
+    """A line of a page. One in UTF-8 that was taken for Latin-1 and encoded once more, as most of the Spanish pages of fakeroot were, is decoded twice."""
+    try:
+        return line.encode('latin-1').decode('utf-8')
+    except UnicodeError:
+        return line
+
+
 def prose(path):
     """A manual page without its requests and escapes."""
     with gzip.open(path) as file:
-        lines = file.read().decode('utf-8', 'replace').split('\n')
+        lines = [decoded(line) for line in file.read().decode('utf-8', 'replace').split('\n')]
     kept = []
     for line in lines:
         worded = WORDED.match(line)

@@ -12,7 +12,8 @@ use Rattle.lic_ere.specs.Trees.{Tree, tree_of, node_tree}
 use Rattle.lic_ere.specs.Trees as trees
 use Rattle.lic_markup.specs.declared.part.Part.{Part}
 use Rattle.lic_markup.specs.Parts.{part_of}
-use Rattle.lic_markup.specs.Meaning.{tree_words, sequence_words, choice_words, part_words, parts_words}
+use Rattle.lic_ere.specs.Meaning.{tree_words, sequence_words, choice_words}
+use Rattle.lic_markup.specs.Meaning.{part_words, parts_words}
 use Rattle.lic_marks.specs.Cores.{WordsOf, one, cat_all}
 use Rattle.lic_marks.specs.Nodes.{core_of, is_measured, letter_cores, IsBuilt}
 use Rattle.lic_marks.specs.declared.node.Node.{Node}

@@ -4,7 +4,7 @@ use Rattle.lic_words.specs.Words.{Word, Power}
 use Rattle.lic_words.specs.Expressions.{Expression, Language, IsAtMost}
 use Rattle.lic_ere.specs.declared.ere.Ere.{Ere}
 use Rattle.lic_ere.specs.Trees.{tree_of}
-use Rattle.lic_markup.specs.Meaning.{tree_words}
+use Rattle.lic_ere.specs.Meaning.{tree_words}
 use Rattle.lic_marks.specs.Cores.{WordsOf}
 use Rattle.lic_marks.specs.Nodes.{core_of, is_measured}
 use Rattle.lic_marks.specs.declared.node.Node.{Node}

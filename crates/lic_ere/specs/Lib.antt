@@ -11,3 +11,4 @@ pub mod Views
 pub mod Spelling
 pub mod Grammar
 pub mod FirstFaults
+pub mod Meaning

@@ -14,7 +14,7 @@ use Rattle.lic_markup.specs.declared.part.Part as declared
 use Rattle.lic_markup.specs.declared.part.Part.TheVariants.{Text, rolls-Text}
 use Rattle.lic_markup.specs.Parts as nodes
 use Rattle.lic_markup.specs.Parts.{Node, part_node, part_of, sequence}
-use Rattle.lic_pieces.specs.PieceTexts.{IsPieceText}
+use Rattle.lic_phrases.specs.PieceTexts.{IsPieceText}
 use Rattle.lic_markup.specs.PartTexts.{HasPieceTexts, HavePieceTexts}
 use Rattle.lic_places.specs.Texts.{AreEdges}
 use Rattle.lic_keys.specs.Required.{HasLetters, HasNoLetters, IsLongestText}

@@ -10,7 +10,7 @@ use Rattle.std.proofs.lemmas.Str.{IsUtf8-append, IsUtf8-drop, IsCharBoundary-aft
 use Rattle.lic_lines.specs.declared.cell.Cell.{Cell}
 use Rattle.lic_phrases.specs.Spelling.{first_is_word, begins_in_word, ends_in_word, is_parted, blank_if, spelled}
 use Rattle.lic_phrases.specs.TokenTexts.{IsTokenText}
-use Rattle.lic_pieces.specs.PieceTexts.{IsPieceText}
+use Rattle.lic_phrases.specs.PieceTexts.{IsPieceText}
 use Rattle.lic_pieces.specs.Pieces.{is_blank, begins_in_blank, ends_in_blank, with_edges}
 use Rattle.lic_markup.proofs.SpelledLemmas.{blank_if-utf8, spelled-utf8}
 

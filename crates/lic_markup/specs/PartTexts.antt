@@ -1,6 +1,6 @@
 -- What the texts of a template's parts are like.
 use Rattle.std.specs.Prelude.{◌≡◌, ℕ, ◌<◌, ◌≤◌, List, length, map, IsUtf8}
-use Rattle.lic_pieces.specs.PieceTexts.{IsPieceText}
+use Rattle.lic_phrases.specs.PieceTexts.{IsPieceText}
 use Rattle.lic_markup.specs.declared.part.Part.{Part}
 use Rattle.lic_markup.specs.Parts.{Node, Nodes, letters, variable, optional, no_node, one_more, sequence, part_of, weight_of, GiveToken}
 

@@ -19,7 +19,7 @@ use Rattle.lic_lines.specs.Cells.{blank_for, cell_of, line_cells, cells_of}
 use Rattle.lic_lines.specs.Streaks.{same_mark, same_family, end_after, without_separator, without_separators, joined, streaks_joined}
 use Rattle.lic_norm.specs.Sources.{AreSourceChars, source_of}
 use Rattle.lic_norm.specs.Spans.{EndsAt}
-use Rattle.lic_tokens.proofs.GroupLemmas.{parts_of_groups}
+use Rattle.lic_rewriting.proofs.GroupLemmas.{parts_of_groups}
 use Rattle.lic_norm.proofs.AnyBytes.{source_of-AreSourceChars}
 use Rattle.lic_norm.proofs.Lying.{Lie, Lie-order, Lie-append, Lie-split, Lie-rest, Lie-take, Lie-drop, Lie-filter}
 

@@ -17,5 +17,5 @@ pub mod AsciiLines
 pub mod TextLemmas
 pub mod StretchPlaces
 pub use Rattle.lic_tokens.proofs.SpellingPlaces
-pub use Rattle.lic_tokens.proofs.TokenTexts
+pub use Rattle.lic_rewriting.proofs.TokenTexts
 pub use Rattle.lic_tokens.proofs.PartedLemmas

@@ -5,7 +5,7 @@ use Rattle.lic_kind.specs.LineRules.{rules_of}
 use Rattle.lic_lines.specs.Tokens.{Token}
 use Rattle.lic_norm.specs.Feeding.{AreLines}
 use Rattle.lic_norm.specs.Reading.{HasRead}
-use Rattle.lic_tokens.specs.Taking.{HasTaken}
+use Rattle.lic_rewriting.specs.Taking.{HasTaken}
 use Rattle.lic_norm.specs.Tokens.{first_tokens_of}
 use Rattle.lic_norm.specs.declared.reader.Reader.{Reader}
 use Rattle.lic_norm.proofs.ReaderLemmas.{more_lines, read_on}

@@ -9,13 +9,13 @@ use Rattle.lic_phrases.specs.Rewriting.{rewritten}
 use Rattle.lic_phrases.specs.Settling.{left_of}
 use Rattle.lic_norm.specs.Feeding.{FeederValue, settled_in, AreLines, AreFirst, lines_read}
 use Rattle.lic_norm.specs.LineEnds.{IsFirstLine}
-use Rattle.lic_tokens.specs.Taking.{HasTaken}
+use Rattle.lic_rewriting.specs.Taking.{HasTaken}
 use Rattle.lic_norm.specs.Reading.{HasRead, HasReadLines}
 use Rattle.lic_tokens.specs.Tokens.{reported}
 use Rattle.lic_norm.specs.Tokens.{first_tokens_of, tokens_of}
 use Rattle.lic_norm.specs.declared.fault.TextFault.{TextFault}
 use Rattle.lic_norm.specs.declared.reader.Reader.{Reader}
-use Rattle.lic_tokens.specs.declared.rewriting.Rewriting.{Rewriting}
+use Rattle.lic_rewriting.specs.declared.rewriting.Rewriting.{Rewriting}
 use Rattle.lic_norm.proofs.LineCuts.{found_last, found_none}
 use Rattle.lic_norm.proofs.WholeLines.{first_tokens_of-lines, lines_read-is}
 

@@ -5,8 +5,8 @@ use Rattle.std.proofs.lemmas.Str.{IsCharBoundary-from_ascii, IsUtf8-from_ascii}
 use Rattle.lic_columns.specs.PlainLines.{HaveFirstTokens}
 use Rattle.lic_columns.specs.TokenPlaces.{TokenPlaces}
 use Rattle.lic_kind.specs.LineRules.{LineRules}
-use Rattle.lic_tokens.specs.Stretches.{AreTokenPlaces}
-use Rattle.lic_tokens.proofs.WordTexts.{words-ascii}
+use Rattle.lic_rewriting.specs.Stretches.{AreTokenPlaces}
+use Rattle.lic_rewriting.proofs.WordTexts.{words-ascii}
 
 -- of letters of ASCII each place is between two characters
 pub ascii_places : (at : ℕ) (places : TokenPlaces) → IsAscii places.letters → length places.ends ≡ length places.starts

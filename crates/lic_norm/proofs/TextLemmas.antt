@@ -6,7 +6,7 @@ use Rattle.lic_lines.specs.Cells.{cells_of}
 use Rattle.lic_phrases.specs.Rewriting.{Phrase}
 use Rattle.lic_phrases.specs.TokenTexts.{HaveTokenTexts}
 use Rattle.lic_tokens.specs.Tokens.{TokenValue, AreTokenTexts, HaveTexts}
-use Rattle.lic_tokens.proofs.TokenTexts.{cells-texts, fit-lines, rewritten-texts}
+use Rattle.lic_rewriting.proofs.TokenTexts.{cells-texts, fit-lines, rewritten-texts}
 use Rattle.lic_norm.specs.Sources.{source_of}
 use Rattle.lic_norm.specs.Tokens.{first_tokens_of, tokens_of}
 use Rattle.lic_norm.specs.Spans.{AreSpans}

@@ -19,7 +19,7 @@ use Rattle.lic_norm.specs.Sources.{source_of}
 use Rattle.lic_norm.specs.Spans.{AreRising, EndsAt, IsOnBoundaries, AreSpans}
 use Rattle.lic_norm.proofs.Lying.{Lie, Lie-order, Lie-wider, Lie-split, Lie-take}
 use Rattle.lic_norm.proofs.CellSpans.{CharsLie, CellsLie, solid, solid-append, source-Lie, cells_of-Lie, streaks_joined-Lie, end_after-lies}
-use Rattle.lic_tokens.proofs.GroupLemmas.{parts_of_groups}
+use Rattle.lic_rewriting.proofs.GroupLemmas.{parts_of_groups}
 
 -- tokens lie from one byte up to another
 abbrev pub TokensLie : List ℕ → ℕ → List Token → ℕ → Type 0

@@ -7,4 +7,4 @@ pub mod Views
 pub mod Feeding
 pub mod Reading
 pub use Rattle.lic_tokens.specs.Places
-pub use Rattle.lic_tokens.specs.Taking
+pub use Rattle.lic_rewriting.specs.Taking

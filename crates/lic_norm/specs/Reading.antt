@@ -1,7 +1,7 @@
 -- How far the reading of an input has come.
 use Rattle.std.specs.Prelude.{◌≢◌, ◌≤◌, length, take, drop, All}
 use Rattle.lic_kind.specs.LineRules.{rules_of}
-use Rattle.lic_tokens.specs.Taking.{HasTaken}
+use Rattle.lic_rewriting.specs.Taking.{HasTaken}
 use Rattle.lic_norm.specs.Tokens.{first_tokens_of}
 use Rattle.lic_norm.specs.Feeding.{AreLines}
 use Rattle.lic_norm.specs.declared.reader.Reader.{Reader}

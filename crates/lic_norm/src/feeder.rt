@@ -34,7 +34,7 @@ impl<'w> Model for Feeder<'w> {
     ghost use Rattle.std.specs.Prelude.{ℕ, ◌≡◌, ◌≤◌, List, length, None};
     ghost use Rattle.lic_kind.specs.LineRules.{rules_of};
     ghost use Rattle.lic_norm.specs.Feeding.{FeederValue, settled_in};
-    ghost use Rattle.lic_tokens.specs.Taking.{listed_by, phrases_of};
+    ghost use Rattle.lic_rewriting.specs.Taking.{listed_by, phrases_of};
     ghost use Rattle.lic_norm.specs.Reading.{HasReadLines};
     ghost use Rattle.lic_norm.specs.Refusal.{max_bytes};
 

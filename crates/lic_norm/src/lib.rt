@@ -11,7 +11,8 @@ mod words;
 
 pub use fault::{FeedFault, TextFault};
 pub use feeder::{Feeder, read_pieces};
-pub use lic_tokens::{Rewriting, Span, Token, TokenList, TokenSlices, utf8_text};
+pub use lic_rewriting::Rewriting;
+pub use lic_tokens::{Span, Token, TokenList, TokenSlices, utf8_text};
 pub use reader::line_tokens::{LineBuffers, take_ascii, take_part};
 pub use reader::lines::{line_end, lines_end, text_line_end};
 pub use refusal::MAX_BYTES;

@@ -3,7 +3,7 @@ ghost use Rattle.std.specs.Prelude.{◌≡◌, ◌≢◌, ◌+◌, ◌++◌, ◌
 ghost use Rattle.std.specs.Io.KnownBytes.{Consumes, IsAtEnd};
 ghost use Rattle.lic_kind.specs.LineRules.{rules_of};
 ghost use Rattle.lic_norm.specs.LineEnds.{IsFirstLine};
-ghost use Rattle.lic_tokens.specs.Taking.{HasTaken, listed_by, phrases_of};
+ghost use Rattle.lic_rewriting.specs.Taking.{HasTaken, listed_by, phrases_of};
 ghost use Rattle.lic_norm.specs.Reading.{HasRead, HasReadLines};
 ghost use Rattle.lic_norm.specs.Refusal.{IsRefusal, max_bytes, refusal_of};
 ghost use Rattle.lic_stream.specs.Stream.{one_more};
@@ -20,8 +20,9 @@ use crate::refusal::MAX_BYTES;
 use crate::words::Words;
 use lic_lines::Rules;
 use lic_phrases::laws::spellings_are_token_texts;
+use lic_rewriting::Rewriting;
 use lic_stream::{Source, pull_into};
-use lic_tokens::{Rewriting, TokenList};
+use lic_tokens::TokenList;
 use memchr::memrchr;
 use std::alloc::{AllocError, Global};
 

@@ -38,7 +38,7 @@ impl Model for Text {
 
 impl Text {
     ghost use Rattle.lic_kind.specs.LineRules.{rules_of};
-    ghost use Rattle.lic_tokens.specs.Taking.{listed_by, phrases_of};
+    ghost use Rattle.lic_rewriting.specs.Taking.{listed_by, phrases_of};
     ghost use Rattle.lic_tokens.specs.Places.{place_end, place_start, texts_of};
     ghost use Rattle.lic_tokens.specs.Slices.{sliced_tokens};
     ghost use Rattle.lic_norm.specs.Reading.{HasRead, HasReadLines};
@@ -123,6 +123,13 @@ impl Text {
         source.clear();
         tokens.clear();
         Reader::new(alloc, source, tokens, buffers, words, rules)
+    }
+
+    /// The tokens.
+    pub fn tokens(&self) -> &TokenList
+        ensures { result.now ≡ self.now.tokens }
+    {
+        &self.tokens
     }
 
     /// How many tokens there are.

@@ -12,3 +12,4 @@ pub mod WordLists
 pub mod WordReading
 pub mod Listed
 pub mod TokenTexts
+pub mod PieceTexts

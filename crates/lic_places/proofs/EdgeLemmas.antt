@@ -7,7 +7,7 @@ use Rattle.std.proofs.lemmas.List.{drop_at, get_or_at, length-reverse, length-ta
 use Rattle.std.proofs.lemmas.Str.{IsCharBoundary-before_ascii, IsUtf8-drop, IsUtf8-past_char, IsUtf8-take, chars-append, encode_ascii, encodes-chars}
 use Rattle.lic_kind.specs.Kinds.{is_word_kind, kind_of}
 use Rattle.lic_phrases.specs.Spelling.{begins_in_word, blank_if, ends_in_word, first_is_word}
-use Rattle.lic_pieces.specs.PieceTexts.{IsPieceText}
+use Rattle.lic_phrases.specs.PieceTexts.{IsPieceText}
 use Rattle.lic_places.specs.Places.{IsAfterBlank, is_blank_at}
 use Rattle.lic_places.proofs.Spelled.{begins_no_word, blank_if-utf8, chars-blank}
 use Rattle.lic_places.specs.Texts.{AreEdges}

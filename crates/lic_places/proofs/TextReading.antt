@@ -11,9 +11,9 @@ use Rattle.lic_kind.specs.Kinds.{kind_of}
 use Rattle.lic_phrases.specs.Spelling.{first_is_word, begins_in_word, ends_in_word, is_parted_at, blank_if, spelled}
 use Rattle.lic_words.specs.Words.{blank}
 use Rattle.lic_words.specs.Letters.{is_word}
-use Rattle.lic_norm.specs.Tokens.{TokenValue}
-use Rattle.lic_pieces.specs.PieceTexts.{IsPieceText}
-use Rattle.lic_norm.specs.Places.{texts_of, place_end, IsTokenEnd}
+use Rattle.lic_tokens.specs.Tokens.{TokenValue}
+use Rattle.lic_phrases.specs.PieceTexts.{IsPieceText}
+use Rattle.lic_tokens.specs.Places.{texts_of, place_end, IsTokenEnd}
 use Rattle.lic_places.specs.Places.{AreTexts, IsAfterBlank, OverBlank, Occurs, is_blank_at, spelling_of, HasGap}
 use Rattle.lic_places.specs.Places.OverBlank.{over, stays}
 use Rattle.lic_places.specs.Reads.{Takes, Reads}

@@ -5,9 +5,9 @@ use Rattle.std.proofs.lemmas.Bool.{cases_lt}
 use Rattle.std.proofs.lemmas.List.{length-map, get_or-map, drop_at}
 use Rattle.std.proofs.lemmas.List.Elements.{All-get_or}
 use Rattle.lic_phrases.specs.Spelling.{is_parted, blank_if, spelled}
-use Rattle.lic_norm.specs.Tokens.{TokenValue}
-use Rattle.lic_norm.specs.Places.{place_start, place_end, texts_of, IsTokenEnd}
-use Rattle.lic_norm.specs.Spans.{IsTokenText}
+use Rattle.lic_tokens.specs.Tokens.{TokenValue}
+use Rattle.lic_tokens.specs.Places.{place_start, place_end, texts_of, IsTokenEnd}
+use Rattle.lic_phrases.specs.TokenTexts.{IsTokenText}
 use Rattle.lic_places.specs.Places.{AreTexts, spelling_of}
 use Rattle.lic_places.proofs.Spelled.{before, spelled-before, spelled-around}
 

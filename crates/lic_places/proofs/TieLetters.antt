@@ -11,8 +11,8 @@ use Rattle.lic_words.specs.Letters.{is_word}
 use Rattle.lic_words.specs.Spelling.{gap_of, gapped_from, sequence_of}
 use Rattle.lic_words.proofs.Sequences.{gapped_from-letter}
 use Rattle.lic_phrases.specs.Spelling.{first_is_word}
-use Rattle.lic_norm.specs.Tokens.{TokenValue}
-use Rattle.lic_norm.specs.Places.{IsTokenEnd}
+use Rattle.lic_tokens.specs.Tokens.{TokenValue}
+use Rattle.lic_tokens.specs.Places.{IsTokenEnd}
 use Rattle.lic_places.specs.Places.{IsAfterBlank, spelling_of}
 use Rattle.lic_places.proofs.TieReading.{AreGappedAt}
 use Rattle.lic_places.proofs.TiePlaces.{drop-on, drop-blank, length-letter, not_after, has_letter, is_shut_inside, is_needed_before}

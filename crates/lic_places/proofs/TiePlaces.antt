@@ -6,8 +6,8 @@ use Rattle.std.proofs.lemmas.Bool.{eqb-true}
 use Rattle.std.proofs.lemmas.List.{drop-drop, drop_at, take_at, take-append-drop, get_or-drop}
 use Rattle.std.proofs.lemmas.Str.{length-encode, len_utf8_bounds, encode_same, inside_one}
 use Rattle.lic_words.specs.Words.{blank}
-use Rattle.lic_norm.specs.Tokens.{TokenValue}
-use Rattle.lic_norm.specs.Places.{IsTokenEnd}
+use Rattle.lic_tokens.specs.Tokens.{TokenValue}
+use Rattle.lic_tokens.specs.Places.{IsTokenEnd}
 use Rattle.lic_places.specs.Places.{HasGap, IsAfterBlank, OverBlank, over, stays, Occurs, is_blank_at, spelling_of}
 use Rattle.lic_places.proofs.TieReading.{HasLetter, IsShut, IsFree, IsNeeded}
 

@@ -10,8 +10,8 @@ use Rattle.lic_words.specs.Letters.{is_word}
 use Rattle.lic_words.specs.Spelling.{Gap, no_gap, free, needed, gap_of, gapped, gapped_from, sequence_of, Spells, SpellsGapped}
 use Rattle.lic_words.proofs.Spellings.{gap-after_blank}
 use Rattle.lic_phrases.specs.Spelling.{is_parted}
-use Rattle.lic_norm.specs.Tokens.{TokenValue}
-use Rattle.lic_norm.specs.Places.{place_start, place_end, texts_of}
+use Rattle.lic_tokens.specs.Tokens.{TokenValue}
+use Rattle.lic_tokens.specs.Places.{place_start, place_end, texts_of}
 use Rattle.lic_places.specs.Places.{AreTexts, IsAfterBlank, spelling_of}
 use Rattle.lic_places.specs.Reads.{BeginsAt, Reads, ReadsTokens}
 use Rattle.lic_places.proofs.TieReading.{HasLetter, HasGapAt, AreGappedAt, not_after_stay, read_gapped, spell_gapped}

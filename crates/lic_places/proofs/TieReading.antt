@@ -4,7 +4,7 @@ use Rattle.std.specs.Char.{IsScalar, encode_utf8}
 use Rattle.std.proofs.lemmas.Str.{length-encode, len_utf8_bounds}
 use Rattle.lic_words.specs.Words.{Word, blank, blanks}
 use Rattle.lic_words.specs.Spelling.{Gap, no_gap, free, needed, Allows, SpellsGapped}
-use Rattle.lic_norm.specs.Tokens.{TokenValue}
+use Rattle.lic_tokens.specs.Tokens.{TokenValue}
 use Rattle.lic_places.specs.Places.{IsAfterBlank, OverBlank, over, stays, Occurs, is_blank_at, spelling_of}
 use Rattle.lic_places.specs.Reads.{Takes, Reads}
 

@@ -10,9 +10,9 @@ use Rattle.lic_words.specs.Words.{blank}
 use Rattle.lic_words.specs.Letters.{is_word}
 use Rattle.lic_words.specs.Spelling.{needed, gap_of, gapped_from, sequence_of}
 use Rattle.lic_phrases.specs.Spelling.{first_is_word, ends_in_word, is_parted, blank_if}
-use Rattle.lic_norm.specs.Tokens.{TokenValue}
-use Rattle.lic_norm.specs.Places.{place_start, place_end, texts_of}
-use Rattle.lic_norm.specs.Spans.{IsTokenText}
+use Rattle.lic_tokens.specs.Tokens.{TokenValue}
+use Rattle.lic_tokens.specs.Places.{place_start, place_end, texts_of}
+use Rattle.lic_phrases.specs.TokenTexts.{IsTokenText}
 use Rattle.lic_places.specs.Places.{AreTexts, HasGap, IsAfterBlank, stays, spelling_of}
 use Rattle.lic_places.proofs.TieReading.{HasLetter, HasGapAt, AreGappedAt, AreGappedAt-end, not_after_stay}
 use Rattle.lic_places.proofs.TiePlaces.{drop-on, length-letter, not_after, has_letter, is_free_before, is_needed_before}

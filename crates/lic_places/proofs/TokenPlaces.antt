@@ -6,8 +6,8 @@ use Rattle.std.proofs.lemmas.List.{length-map, take_all, take_more, get_or-drop,
 use Rattle.std.proofs.lemmas.List.Elements.{All-get_or, All-map}
 use Rattle.lic_phrases.specs.Spelling.{is_parted_at, blank_if, spelled}
 use Rattle.lic_phrases.specs.TokenTexts.{IsTokenText}
-use Rattle.lic_norm.specs.Tokens.{TokenValue}
-use Rattle.lic_norm.specs.Places.{texts_of, place_end, place_start}
+use Rattle.lic_tokens.specs.Tokens.{TokenValue}
+use Rattle.lic_tokens.specs.Places.{texts_of, place_end, place_start}
 use Rattle.lic_places.specs.Places.{AreTexts, IsAfterBlank, OverBlank, Occurs, is_blank_at, spelling_of}
 use Rattle.lic_places.specs.Places.OverBlank.{over, stays}
 use Rattle.lic_places.proofs.Spelled.{before, spelled-before, spelled-around, spelled-cut, spelled-apart, spelled-utf8, apart_at, text_begins, text_ends}

@@ -2,9 +2,9 @@
 use Rattle.std.specs.Prelude.{◌≡◌, ◌==◌, ◌⊎◌, ℕ, suc, ◌+◌, Bool, IsTrue, List, length, All, slice_index, slice_range}
 use Rattle.std.specs.Str.{IsUtf8}
 use Rattle.lic_phrases.specs.Spelling.{spelled}
-use Rattle.lic_norm.specs.Tokens.{TokenValue}
-use Rattle.lic_norm.specs.Spans.{AreTokenTexts}
-use Rattle.lic_norm.specs.Places.{IsTokenEnd, texts_of}
+use Rattle.lic_tokens.specs.Tokens.{TokenValue}
+use Rattle.lic_tokens.specs.Tokens.{AreTokenTexts}
+use Rattle.lic_tokens.specs.Places.{IsTokenEnd, texts_of}
 
 -- the bytes of the canonical spelling
 abbrev pub spelling_of : List TokenValue → List ℕ

@@ -2,8 +2,8 @@
 use Rattle.std.specs.Prelude.{◌≡◌, ◌⊎◌, ℕ, suc, List, [], ◌∷◌}
 use Rattle.std.specs.Char.{IsScalar, encode_utf8}
 use Rattle.lic_words.specs.Words.{Word, blank}
-use Rattle.lic_norm.specs.Tokens.{TokenValue}
-use Rattle.lic_norm.specs.Places.{place_start, place_end}
+use Rattle.lic_tokens.specs.Tokens.{TokenValue}
+use Rattle.lic_tokens.specs.Places.{place_start, place_end}
 use Rattle.lic_places.specs.Places.{IsAfterBlank, OverBlank, Occurs, spelling_of}
 
 -- a letter is between two places, or a blank leads from the one to the other

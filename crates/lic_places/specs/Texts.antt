@@ -3,7 +3,7 @@ use Rattle.std.specs.Prelude.{◌≡◌, ℕ, ◌<◌, Bool, IsTrue, List, ◌++
 use Rattle.std.specs.Str.{IsUtf8}
 use Rattle.lic_words.specs.Words.{Word}
 use Rattle.lic_phrases.specs.Spelling.{blank_if}
-use Rattle.lic_pieces.specs.PieceTexts.{IsPieceText}
+use Rattle.lic_phrases.specs.PieceTexts.{IsPieceText}
 use Rattle.lic_places.specs.Places.{IsAfterBlank, is_blank_at}
 
 -- letters in UTF-8 that begin with no blank and end with none, and within which blanks are between letters of words

@@ -2,7 +2,7 @@
 
 ghost use Rattle.std.specs.Prelude.{◌≡◌, ◌<◌, ◌++◌, false, length, IsTrue};
 ghost use Rattle.lic_phrases.specs.Spelling.{blank_if};
-ghost use Rattle.lic_pieces.specs.PieceTexts.{IsPieceText};
+ghost use Rattle.lic_phrases.specs.PieceTexts.{IsPieceText};
 ghost use Rattle.lic_places.specs.Places.{IsAfterBlank, is_blank_at};
 ghost use Rattle.lic_places.specs.Texts.{AreEdges};
 

@@ -4,9 +4,9 @@ ghost use Rattle.std.specs.Prelude.{◌≡◌, ◌≤◌, ◌<◌, ◌+◌, ◌*
 ghost use Rattle.std.specs.Str.{IsUtf8, chars};
 ghost use Rattle.lic_words.specs.Words.{Word};
 ghost use Rattle.lic_words.specs.Spelling.{Spells};
-ghost use Rattle.lic_norm.specs.Tokens.{TokenValue};
-ghost use Rattle.lic_norm.specs.Places.{place_end, place_start, texts_of};
-ghost use Rattle.lic_pieces.specs.PieceTexts.{IsPieceText};
+ghost use Rattle.lic_tokens.specs.Tokens.{TokenValue};
+ghost use Rattle.lic_tokens.specs.Places.{place_end, place_start, texts_of};
+ghost use Rattle.lic_phrases.specs.PieceTexts.{IsPieceText};
 ghost use Rattle.lic_places.specs.Places.{AreTexts, IsAfterBlank, OverBlank, Occurs, is_blank_at, spelling_of};
 ghost use Rattle.lic_places.specs.Reads.{Reads, ReadsTokens};
 

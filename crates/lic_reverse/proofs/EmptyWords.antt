@@ -7,8 +7,8 @@ use Rattle.lic_words.specs.Expressions.{Expression, IsAtMost, Language, tidy}
 use Rattle.lic_ere.specs.declared.ere.Ere.{Ere}
 use Rattle.lic_ere.specs.declared.ere.Ere.TheVariants as ere
 use Rattle.lic_ere.specs.Trees.{sequence, tree_of}
-use Rattle.lic_markup.specs.Meaning.{choice_words, sequence_words, tree_words}
-use Rattle.lic_norm.specs.Tokens.{TokenValue}
+use Rattle.lic_ere.specs.Meaning.{choice_words, sequence_words, tree_words}
+use Rattle.lic_tokens.specs.Tokens.{TokenValue}
 use Rattle.lic_spans.specs.declared.span.PlaceSpan.{PlaceSpan}
 use Rattle.lic_view.specs.Backward.{IsBack}
 use Rattle.lic_reverse.specs.EmptyWord.{HasEmptyWordAlone}

@@ -9,7 +9,7 @@ use Rattle.lic_words.specs.Words.{Word, blank}
 use Rattle.lic_words.specs.Expressions.{Language}
 use Rattle.lic_ere.specs.declared.ere.Ere.{Ere}
 use Rattle.lic_ere.specs.Trees.{Tree, char, sequence, tree_of}
-use Rattle.lic_markup.specs.Meaning.{sequence_words, tree_words}
+use Rattle.lic_ere.specs.Meaning.{sequence_words, tree_words}
 use Rattle.lic_reverse.specs.LetterGroups.{EndIn, hash_of, mixed}
 
 -- the words of the patterns from one on are one sequence of letters

@@ -11,8 +11,8 @@ use Rattle.lic_ere.specs.declared.ere.Ere.{Ere, Ere-F, fold-roll-Ere}
 use Rattle.lic_ere.specs.declared.ere.Ere.TheVariants.{Alt, Any, Cat as Sequence, Char, Empty, Repeat, Set, rolls-Alt, rolls-Any, rolls-Cat, rolls-Char, rolls-Empty, rolls-Repeat, rolls-Set}
 use Rattle.lic_ere.specs.Trees.{Tree, node_tree, sequence, tree_of}
 use Rattle.lic_ere.specs.Trees as trees
-use Rattle.lic_markup.specs.Meaning.{choice_words, sequence_words, tree_words}
-use Rattle.lic_norm.specs.Tokens.{TokenValue}
+use Rattle.lic_ere.specs.Meaning.{choice_words, sequence_words, tree_words}
+use Rattle.lic_tokens.specs.Tokens.{TokenValue}
 use Rattle.lic_spans.specs.declared.span.PlaceSpan.{PlaceSpan}
 use Rattle.lic_reverse.specs.declared.ways.Ways.{Ways}
 use Rattle.lic_reverse.specs.Passing.{is_one, passes_of}

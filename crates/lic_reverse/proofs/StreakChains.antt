@@ -7,7 +7,7 @@ use Rattle.std.proofs.lemmas.Bool.{cases_eq, cases_lt, eq-eqb, true≢false}
 use Rattle.std.proofs.lemmas.List.{drop-drop, get_or_past, length-drop, length-take, take-append-drop}
 use Rattle.std.proofs.lemmas.Str.{IsUtf8-between, encode_ascii, encode_same, length-encode, len_utf8_bounds}
 use Rattle.lic_words.specs.Words.{Word, blank}
-use Rattle.lic_norm.specs.Tokens.{TokenValue}
+use Rattle.lic_tokens.specs.Tokens.{TokenValue}
 use Rattle.lic_places.specs.Places.{AreTexts, IsAfterBlank, OverBlank, Occurs, is_blank_at, over, spelling_of}
 use Rattle.lic_places.specs.Reads.{Reads}
 use Rattle.lic_view.specs.LettersBefore.{IsLetterBefore}

@@ -1,7 +1,7 @@
 -- Laws of going back over the words of a pattern: words one after another, one set of words or another, one way or another.
 use Rattle.std.proofs.Common.{◌≡◌, ◌⊎◌, ℕ, List, [], ◌++◌, inl, inr, refl, sym, subst}
 use Rattle.lic_words.specs.Words.{Word, Cat}
-use Rattle.lic_norm.specs.Tokens.{TokenValue}
+use Rattle.lic_tokens.specs.Tokens.{TokenValue}
 use Rattle.lic_places.specs.Reads.{Reads}
 use Rattle.lic_spans.specs.declared.span.PlaceSpan.{PlaceSpan}
 use Rattle.lic_view.specs.PlaceSets.{ArePlaced, Reaches}

@@ -1,7 +1,7 @@
 -- Going back over one letter of a pattern, by what was taken last, and what a tidy word leads to.
 use Rattle.std.proofs.Common.{◌≡◌, ◌⊎◌, ℕ, Bool, true, List, [], ◌∷◌, ◌++◌, inl, inr, refl, sym, subst, ◌∙◌}
 use Rattle.lic_words.specs.Words.{Word, IsTidy, blank}
-use Rattle.lic_norm.specs.Tokens.{TokenValue}
+use Rattle.lic_tokens.specs.Tokens.{TokenValue}
 use Rattle.lic_places.specs.Reads.{Reads}
 use Rattle.lic_spans.specs.declared.span.PlaceSpan.{PlaceSpan}
 use Rattle.lic_view.specs.PlaceSets.{ArePlaced, Reaches}

@@ -1,7 +1,7 @@
 -- Going back over streaks of letters that pass, by what was taken last.
 use Rattle.std.proofs.Common.{◌≡◌, ◌⊎◌, ℕ, ◌-◌, ◌<◌, Bool, true, false, List, [], ◌∷◌, ◌++◌, length, inl, inr, refl, sym, ap, arith, subst, ◌∙◌}
 use Rattle.lic_words.specs.Words.{Word, Cat, blank}
-use Rattle.lic_norm.specs.Tokens.{TokenValue}
+use Rattle.lic_tokens.specs.Tokens.{TokenValue}
 use Rattle.lic_places.specs.Reads.{Reads}
 use Rattle.lic_spans.specs.declared.span.PlaceSpan.{PlaceSpan}
 use Rattle.lic_view.specs.PlaceSets.{ArePlaced, Reaches}

@@ -4,7 +4,7 @@ use Rattle.std.proofs.Math.Utf8.{encode}
 use Rattle.std.proofs.lemmas.Bool.{cases_eq}
 use Rattle.std.proofs.lemmas.Str.{length-encode, len_utf8_bounds}
 use Rattle.lic_words.specs.Words.{Word, IsTidy, blank}
-use Rattle.lic_norm.specs.Tokens.{TokenValue}
+use Rattle.lic_tokens.specs.Tokens.{TokenValue}
 use Rattle.lic_places.specs.Reads.{Reads, Takes}
 use Rattle.lic_reverse.specs.Tidily.{IsTakenBack, IsTakenBefore, Taken, a_blank, a_letter, nothing}
 use Rattle.lic_view.proofs.Back.{OverBlank-order}

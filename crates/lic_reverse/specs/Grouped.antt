@@ -1,6 +1,6 @@
 -- Ways in groups, by what was taken last.
 use Rattle.std.specs.Prelude.{List}
-use Rattle.lic_norm.specs.Tokens.{TokenValue}
+use Rattle.lic_tokens.specs.Tokens.{TokenValue}
 use Rattle.lic_reverse.specs.declared.ways.endings.GroupedWays.{GroupedWays}
 use Rattle.lic_reverse.specs.declared.ways.Ways.{Ways}
 use Rattle.lic_reverse.specs.LetterGroups.{AreGroupsOf}

@@ -2,7 +2,7 @@
 use Rattle.std.specs.Prelude.{◌≡◌, ◌⊎◌, ℕ, ◌+◌, ◌*◌, ◌/◌, ◌%◌, ◌^◌, ◌<◌, ◌≤◌, List, [], ◌∷◌, ◌++◌, Vec, Contains, length, map, slice_index_or}
 use Rattle.std.specs.Global.{Global}
 use Rattle.lic_words.specs.Words.{Word, blank}
-use Rattle.lic_norm.specs.Tokens.{TokenValue}
+use Rattle.lic_tokens.specs.Tokens.{TokenValue}
 use Rattle.lic_places.specs.Reads.{Reads}
 use Rattle.lic_spans.specs.Spans.{Holds}
 use Rattle.lic_spans.specs.declared.span.SpanKind.{SpanKind}

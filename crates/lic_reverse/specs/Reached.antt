@@ -1,6 +1,6 @@
 -- Ways that were reached by going back over words again and again, and those that one word more leads to.
 use Rattle.std.specs.Prelude.{◌≡◌, ◌⊎◌, ◌++◌, ℕ, List, []}
-use Rattle.lic_norm.specs.Tokens.{TokenValue}
+use Rattle.lic_tokens.specs.Tokens.{TokenValue}
 use Rattle.lic_spans.specs.declared.span.PlaceSpan.{PlaceSpan}
 use Rattle.lic_reverse.specs.declared.ways.reached.Reached.{Reached}
 use Rattle.lic_view.specs.PlaceSets.{ArePlaced, Reaches}

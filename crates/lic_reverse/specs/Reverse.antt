@@ -1,7 +1,7 @@
 -- Going back over one part of a template.
 use Rattle.std.specs.Prelude.{List}
 use Rattle.lic_words.specs.Words.{Word}
-use Rattle.lic_norm.specs.Tokens.{TokenValue}
+use Rattle.lic_tokens.specs.Tokens.{TokenValue}
 use Rattle.lic_spans.specs.declared.span.PlaceSpan.{PlaceSpan}
 use Rattle.lic_view.specs.Backward.{IsBack}
 use Rattle.lic_view.specs.declared.sets.keep.Keep.TheVariants.{Least}

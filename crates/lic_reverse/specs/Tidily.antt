@@ -3,7 +3,7 @@ use Rattle.std.specs.Prelude.{◌≡◌, ◌⊎◌, ℕ, suc, ◌+◌, ◌^◌, 
 use Rattle.lic_words.specs.Words.{Word, Power, blank}
 use Rattle.lic_ere.specs.Trees.{tree_of}
 use Rattle.lic_ere.specs.declared.ere.Ere.{Ere}
-use Rattle.lic_norm.specs.Tokens.{TokenValue}
+use Rattle.lic_tokens.specs.Tokens.{TokenValue}
 use Rattle.lic_places.specs.Reads.{Reads}
 use Rattle.lic_spans.specs.declared.span.PlaceSpan.{PlaceSpan}
 use Rattle.lic_reverse.specs.declared.ways.Ways.{Ways}

@@ -2,7 +2,7 @@
 
 ghost use Rattle.std.specs.Prelude.{◌≡◌, All, IsTrue, Some};
 ghost use Rattle.lic_ere.specs.Trees.{tree_of};
-ghost use Rattle.lic_markup.specs.Meaning.{tree_words};
+ghost use Rattle.lic_ere.specs.Meaning.{tree_words};
 ghost use Rattle.lic_words.specs.Expressions.{IsAtMost};
 ghost use Rattle.lic_reverse.specs.EmptyWord.{HasEmptyWordAlone};
 

@@ -3,7 +3,7 @@
 ghost use Rattle.std.specs.Prelude.{◌≡◌, ◌<◌, ◌≤◌, ◌∷◌, [], ℕ, map, length, IfOk, IsTrue, MatchOption};
 ghost use Rattle.lic_words.specs.Words.{Power};
 ghost use Rattle.lic_words.specs.Expressions.{Language, IsAtMost, repeat, tidy};
-ghost use Rattle.lic_markup.specs.Meaning.{tree_words, sequence_words, choice_words};
+ghost use Rattle.lic_ere.specs.Meaning.{tree_words, sequence_words, choice_words};
 ghost use Rattle.lic_ere.specs.Trees.{tree_of, sequence};
 ghost use Rattle.lic_view.specs.Backward.{IsBack};
 ghost use Rattle.lic_view.specs.PlaceSets.{ArePlaced};

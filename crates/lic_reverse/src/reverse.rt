@@ -4,8 +4,8 @@ ghost use Rattle.std.specs.Prelude.{◌≡◌, ◌↔◌, ◌++◌, [], ℕ, IsT
 ghost use Rattle.std.specs.Str.{chars};
 ghost use Rattle.lic_ere.specs.Trees.{tree_of};
 ghost use Rattle.lic_words.specs.Expressions.{Language, letters, tidy};
-ghost use Rattle.lic_markup.specs.Meaning.{tree_words};
-ghost use Rattle.lic_pieces.specs.PieceTexts.{IsPieceText};
+ghost use Rattle.lic_ere.specs.Meaning.{tree_words};
+ghost use Rattle.lic_phrases.specs.PieceTexts.{IsPieceText};
 ghost use Rattle.lic_view.specs.PlaceSets.{ArePlaced, Reaches};
 ghost use Rattle.lic_reverse.specs.Reverse.{LeadBack};
 

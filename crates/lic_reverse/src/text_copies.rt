@@ -3,7 +3,7 @@
 ghost use Rattle.std.specs.Prelude.{◌≡◌, [], IfOk};
 ghost use Rattle.std.specs.Str.{chars};
 ghost use Rattle.lic_words.specs.Expressions.{Language, letters};
-ghost use Rattle.lic_pieces.specs.PieceTexts.{IsPieceText};
+ghost use Rattle.lic_phrases.specs.PieceTexts.{IsPieceText};
 ghost use Rattle.lic_view.specs.Backward.{IsBack, Keeps};
 ghost use Rattle.lic_view.specs.PlaceSets.{ArePlaced};
 ghost use Rattle.lic_reverse.specs.Reached.{reached_of};

@@ -3,7 +3,7 @@
 ghost use Rattle.std.specs.Prelude.{IfOk};
 ghost use Rattle.lic_ere.specs.Trees.{tree_of};
 ghost use Rattle.lic_words.specs.Expressions.{Language, tidy};
-ghost use Rattle.lic_markup.specs.Meaning.{tree_words};
+ghost use Rattle.lic_ere.specs.Meaning.{tree_words};
 ghost use Rattle.lic_view.specs.Backward.{IsBack};
 ghost use Rattle.lic_view.specs.PlaceSets.{ArePlaced};
 

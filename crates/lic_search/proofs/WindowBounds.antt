@@ -19,7 +19,8 @@ use Rattle.lic_ere.specs.Trees as trees
 use Rattle.lic_markup.specs.declared.part.Part.{Part, Part-F, fold-roll-Part}
 use Rattle.lic_markup.specs.declared.part.Part.TheVariants.{rolls-Var}
 use Rattle.lic_markup.specs.declared.part.Part.TheVariants as part
-use Rattle.lic_markup.specs.Meaning.{choice_words, node_words, part_words, parts_words, sequence_words, tree_words}
+use Rattle.lic_ere.specs.Meaning.{choice_words, sequence_words, tree_words}
+use Rattle.lic_markup.specs.Meaning.{node_words, part_words, parts_words}
 use Rattle.lic_markup.specs.Parts.{Node, part_node, part_of}
 use Rattle.lic_markup.specs.Parts as nodes
 use Rattle.lic_norm.specs.Tokens.{TokenValue}

@@ -45,7 +45,7 @@ pub fn all_matches(alloc: Global, set: &Set, text: &Text) -> Result<BundledMatch
     ensures ordered { IfOk result (λ found. All IsOrdered found.bundles.items) }
     ensures once { IfOk result (λ found. AreApart found.bundles.items) }
 {
-    let view = View::new(text);
+    let view = View::new(text.tokens());
     let mut found = BundledMatches {
         bundles: Vec::new(alloc),
         left: Vec::new(alloc),

@@ -8,7 +8,7 @@ ghost use Rattle.lic_markup.specs.Meaning.{part_words};
 ghost use Rattle.lic_markup.specs.Parts as nodes;
 ghost use Rattle.lic_markup.specs.Parts.{part_of, sequence};
 ghost use Rattle.lic_markup.specs.PartTexts.{HasPieceTexts, HavePieceTexts};
-ghost use Rattle.lic_pieces.specs.PieceTexts.{IsPieceText};
+ghost use Rattle.lic_phrases.specs.PieceTexts.{IsPieceText};
 ghost use Rattle.lic_search.specs.Copies.{AreCopies};
 ghost use Rattle.lic_reverse.specs.Tidily.{UpTo};
 

@@ -5,7 +5,8 @@ ghost use Rattle.std.specs.Str.{chars};
 ghost use Rattle.lic_ere.specs.Trees as trees;
 ghost use Rattle.lic_ere.specs.Trees.{tree_of};
 ghost use Rattle.lic_words.specs.Expressions.{letters};
-ghost use Rattle.lic_markup.specs.Meaning.{choice_words, part_words, parts_words, sequence_words, tree_words};
+ghost use Rattle.lic_ere.specs.Meaning.{choice_words, sequence_words, tree_words};
+ghost use Rattle.lic_markup.specs.Meaning.{part_words, parts_words};
 ghost use Rattle.lic_markup.specs.Parts.{part_of};
 ghost use Rattle.lic_search.specs.Windows.{HasAtMost, TakesAtMost};
 

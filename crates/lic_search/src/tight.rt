@@ -39,7 +39,7 @@ pub fn tight_matches(alloc: Global, set: &Set, text: &Text) -> Result<Vec<Triple
 fn least_matches(alloc: Global, set: &Set, text: &Text) -> Result<Vec<Triple>, AllocError>
     ensures { IfOk result (λ found. HasLeastMatches set.now text.now.tokens found.items) }
 {
-    let view = View::new(text);
+    let view = View::new(text.tokens());
     let mut found = Vec::new(alloc);
     let candidates = set.candidates(alloc, text)?;
     for candidate in &candidates {

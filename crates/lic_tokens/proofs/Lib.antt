@@ -1,14 +1,7 @@
-pub mod GroupLemmas
 pub mod SpellingPlaces
 pub mod ListedTokens
-pub mod TokenTexts
 pub mod EntriesBy
 pub mod EntryLemmas
+pub mod AddedTokens
 pub mod PartedLemmas
-pub mod WordTexts
-pub mod WordBytes
-pub mod StretchTokens
-pub mod LeftTokens
-pub mod TakenSteps
-pub mod BatchLemmas
 pub mod SliceLemmas

@@ -50,3 +50,14 @@ pub record IsKept (spelling : List ℕ) (entries : List Entry) (tokens : List To
   pub each : AreEntries [] tokens entries
   pub utf8 : All (λ t. IsUtf8 t.text) tokens
   pub texts : AreTokenTexts tokens
+
+-- by these bytes and entries, put after those of the tokens before, these tokens are kept as well
+pub record AreSpelledAfter (before tokens : List TokenValue) (bytes : List ℕ) (entries : List Entry) : Type 0 where
+  pub utf8 : IsUtf8 bytes
+  pub kept : (spelling : List ℕ) (others : List Entry) → IsKept spelling others before
+      → IsKept (spelling ++ bytes) (others ++ entries) (before ++ tokens)
+
+-- some tokens are
+pub record HasSpelled (before : List TokenValue) (bytes : List ℕ) (entries : List Entry) : Type 0 where
+  pub tokens : List TokenValue
+  pub spelled : AreSpelledAfter before tokens bytes entries

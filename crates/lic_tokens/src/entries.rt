@@ -7,9 +7,9 @@ use std::marker::Model;
 
 /// The bytes of the source that a token was made from.
 #[derive(Clone, Copy, Debug)]
-pub(crate) struct SourceBytes {
-    pub(crate) start: u32,
-    pub(crate) end: u32,
+pub struct SourceBytes {
+    pub start: u32,
+    pub end: u32,
 }
 
 /// Of each token where its text ends in the canonical spelling, and its bytes of the source.

@@ -83,8 +83,7 @@ fn ends_word(text: &str) -> bool
 impl TokenList {
     ghost use Rattle.lic_tokens.specs.Places.{place_end, place_start, texts_of};
     ghost use Rattle.lic_tokens.specs.Tokens.{AreTokenTexts, TokenValue, reported};
-    ghost use Rattle.lic_tokens.specs.Batches.{AreSpelledAfter, HasSpelled};
-    ghost use Rattle.lic_tokens.specs.Entries.{entries_by};
+    ghost use Rattle.lic_tokens.specs.Entries.{AreSpelledAfter, HasSpelled, entries_by};
     ghost use Rattle.lic_tokens.specs.Slices.{sliced_tokens};
 
     /// No tokens.
@@ -99,7 +98,7 @@ impl TokenList {
     }
 
     /// No tokens yet, with memory for a number of them, and for the bytes of their texts.
-    pub(crate) fn with_capacity(
+    pub fn with_capacity(
         alloc: Global,
         tokens: usize,
         bytes: usize,
@@ -125,7 +124,7 @@ impl TokenList {
     }
 
     /// Takes memory for a number of tokens more, and for the bytes of their texts.
-    pub(crate) fn reserve(&mut self, tokens: usize, bytes: usize) -> Result<(), AllocError>
+    pub fn reserve(&mut self, tokens: usize, bytes: usize) -> Result<(), AllocError>
         ensures { self.new ≡ self.old }
     {
         self.entries.reserve(tokens)?;
@@ -142,7 +141,7 @@ impl TokenList {
 
     /// Adds a token.
     #[inline(always)]
-    pub(crate) fn push(&mut self, text: &str, start: u32, end: u32) -> Result<(), AllocError>
+    pub fn push(&mut self, text: &str, start: u32, end: u32) -> Result<(), AllocError>
         requires { IsTokenText text.now }
         ensures { OnOk result (self.new
             ≡ self.old ++ (record {
@@ -161,7 +160,7 @@ impl TokenList {
 
     /// Adds a token whose text, in UTF-8, begins and ends in a letter of kind Word or not.
     #[inline(always)]
-    pub(crate) fn push_bytes(
+    pub fn push_bytes(
         &mut self,
         text: &[u8],
         begins: bool,
@@ -195,7 +194,7 @@ impl TokenList {
     /// Adds tokens that were spelled together after these, of which the last ends in a letter of kind Word or not. 32 bits say where they
     /// end.
     #[inline(never)]
-    pub(crate) fn add(
+    pub fn add(
         &mut self,
         bytes: &[u8],
         ends: &[u32],
@@ -218,7 +217,7 @@ impl TokenList {
     }
 
     /// Whether the spelling ends in a letter of kind Word.
-    pub(crate) fn after_word(&self) -> bool
+    pub fn after_word(&self) -> bool
         ensures word { result ≡ ends_in_word (spelled (texts_of self.now)) }
         ensures utf8 { IsUtf8 (spelled (texts_of self.now)) }
     {
@@ -227,11 +226,7 @@ impl TokenList {
 
     /// Adds tokens as the rewriting gives them.
     #[inline(always)]
-    pub(crate) fn extend(
-        &mut self,
-        phrases: &Phrases,
-        settled: &[FinalToken],
-    ) -> Result<(), AllocError>
+    pub fn extend(&mut self, phrases: &Phrases, settled: &[FinalToken]) -> Result<(), AllocError>
         requires known { AreKnown (length phrases.now.spellings) settled.now }
         requires texts { AreTokenTexts (map reported (map (spanned_in phrases.now.spellings) settled.now)) }
         ensures { OnOk result (self.new
@@ -335,6 +330,13 @@ impl TokenList {
     /// The texts of the tokens are in UTF-8.
     pub fn texts_are_utf8(&self)
         ensures { All (λ t. IsUtf8 t.text) self.now }
+    {
+        let _ = &self.entries;
+    }
+
+    /// The text of each token has a letter, and each blank in it is between two letters of kind Word.
+    pub fn texts_are_token_texts(&self)
+        ensures { AreTokenTexts self.now }
     {
         let _ = &self.entries;
     }

@@ -7,7 +7,7 @@ use Rattle.lic_words.specs.Spelling.{Spells}
 use Rattle.lic_ere.specs.Trees.{Tree}
 use Rattle.lic_markup.specs.Parts.{Nodes, no_node, one_more}
 use Rattle.lic_markup.specs.Parts as parts
-use Rattle.lic_markup.specs.Meaning.{tree_words}
+use Rattle.lic_ere.specs.Meaning.{tree_words}
 use Rattle.lic_vars.specs.Derivations.{Choice, Derivation, IsAllowed, IsLeast, NotAfter, record_of, word_of}
 use Rattle.lic_vars.specs.Moves.{Move, text, variable, optional, moves}
 use Rattle.lic_vars.specs.Making.{CanMake, LeastOf, Makes, ends, writes, picks, enters, skips}

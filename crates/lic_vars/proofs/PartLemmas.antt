@@ -11,9 +11,9 @@ use Rattle.lic_markup.specs.declared.part.Part.{Part, Part-F, fold-roll-Part}
 use Rattle.lic_markup.specs.declared.part.Part.TheVariants.{Text, Var, Optional, rolls-Text, rolls-Var, rolls-Optional}
 use Rattle.lic_markup.specs.Parts.{Node, one_more, sequence, part_of, part_node}
 use Rattle.lic_markup.specs.Parts as parts
-use Rattle.lic_markup.specs.Meaning.{tree_words}
+use Rattle.lic_ere.specs.Meaning.{tree_words}
 use Rattle.lic_markup.specs.PartTexts.{HasPieceTexts, HavePieceTexts}
-use Rattle.lic_pieces.specs.PieceTexts.{IsPieceText}
+use Rattle.lic_phrases.specs.PieceTexts.{IsPieceText}
 use Rattle.lic_vars.specs.Moves.{Move, text, variable, optional, moves}
 use Rattle.lic_vars.specs.Cuts.{move_of, moves_of, IsPiece}
 use Rattle.lic_vars.specs.declared.steps.Step.{Step}

@@ -1,10 +1,10 @@
 -- What the code's steps and cuts represent.
 use Rattle.std.specs.Prelude.{◌≡◌, ℕ, ◌+◌, ◌-◌, ◌&&◌, ◌↔◌, Bool, true, false, List, ◌∷◌, ◌++◌, drop, map, length, chars, if◌then◌else◌}
 use Rattle.lic_words.specs.Words.{Word, blank}
-use Rattle.lic_pieces.specs.PieceTexts.{IsPieceText}
+use Rattle.lic_phrases.specs.PieceTexts.{IsPieceText}
 use Rattle.lic_norm.specs.Tokens.{TokenValue}
 use Rattle.lic_ere.specs.Trees.{tree_of}
-use Rattle.lic_markup.specs.Meaning.{tree_words}
+use Rattle.lic_ere.specs.Meaning.{tree_words}
 use Rattle.lic_places.specs.Places.{OverBlank, is_blank_at, spelling_of}
 use Rattle.lic_places.specs.Reads.{Reads}
 use Rattle.lic_spans.specs.declared.span.PlaceSpan.{PlaceSpan}

@@ -5,7 +5,7 @@ use Rattle.lic_words.specs.Letters.{letters_in}
 use Rattle.lic_words.specs.Expressions.{Language}
 use Rattle.lic_words.specs.Spelling.{Spells}
 use Rattle.lic_markup.specs.Parts.{Nodes, no_node, one_more, letters, variable, optional}
-use Rattle.lic_markup.specs.Meaning.{tree_words}
+use Rattle.lic_ere.specs.Meaning.{tree_words}
 
 -- For each optional part that is not inside an absent one: absent, or present with the choice of its body.
 -- For each variable that is not inside an absent part: a word.

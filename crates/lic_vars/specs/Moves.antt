@@ -4,7 +4,7 @@ use Rattle.lic_words.specs.Words.{Word}
 use Rattle.lic_words.specs.Expressions.{Expression}
 use Rattle.lic_markup.specs.Parts.{Nodes, no_node, one_more}
 use Rattle.lic_markup.specs.Parts as parts
-use Rattle.lic_markup.specs.Meaning.{tree_words}
+use Rattle.lic_ere.specs.Meaning.{tree_words}
 
 -- a text, a variable, and an optional part of a number of moves
 pub data Move : Type 0 where

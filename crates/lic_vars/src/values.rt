@@ -89,7 +89,7 @@ impl<'s> Assigner<'s> {
         }
         let letters = letter_spans(alloc, text, triple.first, triple.last)?;
         let _length = text.len();
-        let view = View::of(text, triple.first, triple.last - triple.first + 1);
+        let view = View::of(text.tokens(), triple.first, triple.last - triple.first + 1);
         tokens_have_texts(&view);
         least_values(alloc, &view, &self.steps, &letters)
     }

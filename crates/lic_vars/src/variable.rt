@@ -3,7 +3,7 @@
 ghost use Rattle.std.specs.Prelude.{◌≡◌, ◌+◌, ◌-◌, ◌<◌, ◌&&◌, IfOk, IsTrue, ◌↔◌, if◌then◌else◌, nat_lt, ◌≤◌, length, max};
 ghost use Rattle.lic_ere.specs.Trees.{tree_of};
 ghost use Rattle.lic_words.specs.Expressions.{Language, tidy};
-ghost use Rattle.lic_markup.specs.Meaning.{tree_words};
+ghost use Rattle.lic_ere.specs.Meaning.{tree_words};
 ghost use Rattle.lic_places.specs.Places.{is_blank_at, spelling_of};
 ghost use Rattle.lic_reverse.specs.EmptyWord.{HasEmptyWordAlone};
 ghost use Rattle.lic_view.specs.PlaceSets.{ArePlaced};

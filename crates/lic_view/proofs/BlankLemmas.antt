@@ -3,8 +3,8 @@ use Rattle.std.proofs.Common.{◌≡◌, ◌⊎◌, ◌↔◌, ℕ, ◌<◌, ◌
 use Rattle.std.specs.Prelude.{Contains}
 use Rattle.std.proofs.lemmas.List.Elements.{All-contains, All-nil, All-push, Contains-push_cases}
 use Rattle.lic_words.specs.Words.{Word, blank}
-use Rattle.lic_norm.specs.Tokens.{TokenValue}
-use Rattle.lic_norm.specs.Places.{place_end}
+use Rattle.lic_tokens.specs.Tokens.{TokenValue}
+use Rattle.lic_tokens.specs.Places.{place_end}
 use Rattle.lic_places.specs.Places.{AreTexts, IsAfterBlank, OverBlank, is_blank_at, over, spelling_of, stays}
 use Rattle.lic_places.specs.Reads.{Reads, Takes}
 use Rattle.lic_spans.specs.Spans.{Holds}

@@ -5,8 +5,8 @@ use Rattle.std.proofs.lemmas.Bool.{cases_lt}
 use Rattle.std.proofs.lemmas.List.{get_or_past, length-append, length-drop, length-map}
 use Rattle.std.proofs.lemmas.List.Elements.{All-get_or, All-map}
 use Rattle.std.proofs.lemmas.Str.{IsCharBoundary-before_ascii, IsCharBoundary-end, IsCharBoundary-start}
-use Rattle.lic_norm.specs.Tokens.{TokenValue}
-use Rattle.lic_norm.specs.Places.{place_end, place_start, texts_of}
+use Rattle.lic_tokens.specs.Tokens.{TokenValue}
+use Rattle.lic_tokens.specs.Places.{place_end, place_start, texts_of}
 use Rattle.lic_places.specs.Places.{AreTexts, OverBlank, Occurs, is_blank_at, spelling_of}
 use Rattle.lic_places.specs.Places.OverBlank.{over, stays}
 use Rattle.lic_places.proofs.TokenPlaces.{OverBlank-one, place_end-last, place_end-order, place_start-text, tokens-next}

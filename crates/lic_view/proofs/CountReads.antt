@@ -8,7 +8,7 @@ use Rattle.std.proofs.lemmas.Bool.{cases_eq, true≢false}
 use Rattle.std.proofs.lemmas.List.{drop-drop, drop_at, take_at, get_or-drop, length-take-le, length-append, length-drop}
 use Rattle.std.proofs.lemmas.Str.{IsCharBoundary-start, IsUtf8-between, IsUtf8-encode, encode_ascii, encodes-append, inside_one, len_utf8_bounds, length-encode}
 use Rattle.lic_words.specs.Words.{Word, blank, IsTidy}
-use Rattle.lic_norm.specs.Tokens.{TokenValue}
+use Rattle.lic_tokens.specs.Tokens.{TokenValue}
 use Rattle.lic_places.specs.Places.{AreTexts, IsAfterBlank, OverBlank, Occurs, is_blank_at, spelling_of}
 use Rattle.lic_places.specs.Places.OverBlank.{over}
 use Rattle.lic_places.specs.Reads.{Reads, Takes}

@@ -3,8 +3,8 @@ use Rattle.std.proofs.Common.{◌≡◌, ◌⊎◌, ◌↔◌, ℕ, suc, ◌+◌
 use Rattle.std.specs.Str.{chars}
 use Rattle.lic_words.specs.Words.{Word}
 use Rattle.lic_words.specs.Spelling.{Spells}
-use Rattle.lic_norm.specs.Tokens.{TokenValue}
-use Rattle.lic_norm.specs.Places.{place_end, place_start}
+use Rattle.lic_tokens.specs.Tokens.{TokenValue}
+use Rattle.lic_tokens.specs.Places.{place_end, place_start}
 use Rattle.lic_places.specs.Places.{AreTexts, OverBlank, is_blank_at, spelling_of}
 use Rattle.lic_places.specs.Reads.{ReadsTokens}
 use Rattle.lic_places.proofs.TieRange.{spelling_is_read}

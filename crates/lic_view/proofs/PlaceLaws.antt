@@ -1,7 +1,7 @@
 -- Laws of places, as lemmas.
 use Rattle.std.proofs.Common.{◌≡◌, ℕ, suc, ◌<◌, List, length, false, IsTrue}
-use Rattle.lic_norm.specs.Tokens.{TokenValue}
-use Rattle.lic_norm.specs.Places.{place_end}
+use Rattle.lic_tokens.specs.Tokens.{TokenValue}
+use Rattle.lic_tokens.specs.Places.{place_end}
 use Rattle.lic_places.specs.Places.{AreTexts, IsAfterBlank, OverBlank, is_blank_at, spelling_of}
 use Rattle.lic_places.proofs.TokenPlaces.{OverBlank-one, OverBlank-twice, blank-alone, token-ends}
 use Rattle.lic_view.proofs.ViewPlaces.{ends-rise}

@@ -5,9 +5,9 @@ use Rattle.std.specs.Str.{IsUtf8}
 use Rattle.std.proofs.lemmas.List.{length-map, length-take, length-take-le, length-drop, drop-map, take-map, take_at, drop_at, get_or-drop, get_or-take, take-take, drop-take}
 use Rattle.std.proofs.lemmas.List.Elements.{All-take, All-drop}
 use Rattle.lic_phrases.specs.Spelling.{spelled, blank_if, is_parted, is_parted_at}
-use Rattle.lic_norm.specs.Tokens.{TokenValue}
-use Rattle.lic_norm.specs.Spans.{IsTokenText}
-use Rattle.lic_norm.specs.Places.{place_end, place_start, texts_of}
+use Rattle.lic_tokens.specs.Tokens.{TokenValue}
+use Rattle.lic_phrases.specs.TokenTexts.{IsTokenText}
+use Rattle.lic_tokens.specs.Places.{place_end, place_start, texts_of}
 use Rattle.lic_places.specs.Places.{AreTexts, spelling_of}
 use Rattle.lic_places.proofs.Spelled.{before, spelled-cut, spelled-front}
 use Rattle.lic_places.proofs.TokenPlaces.{place_end-is, place_end-start, place_start-is}

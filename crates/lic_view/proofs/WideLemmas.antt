@@ -4,7 +4,7 @@ use Rattle.std.proofs.Math.Logic.{⊎_elim}
 use Rattle.std.proofs.lemmas.Bool.{cases_lt}
 use Rattle.std.proofs.lemmas.List.{append-nil, get_or_default}
 use Rattle.lic_words.specs.Words.{Word}
-use Rattle.lic_norm.specs.Tokens.{TokenValue}
+use Rattle.lic_tokens.specs.Tokens.{TokenValue}
 use Rattle.lic_places.specs.Places.{AreTexts, spelling_of}
 use Rattle.lic_places.specs.Reads.{Reads}
 use Rattle.lic_places.proofs.TokenPlaces.{OverBlank-order}

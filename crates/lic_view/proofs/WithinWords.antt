@@ -5,9 +5,9 @@ use Rattle.std.proofs.lemmas.Bool.{cases_Bool, cases_lt, eqb-true, true≢false}
 use Rattle.std.proofs.lemmas.List.{get_or-drop, get_or_append_left}
 use Rattle.lic_kind.specs.Kinds.{is_word_kind, kind_of}
 use Rattle.lic_phrases.specs.Spelling.{blank_if, is_parted, is_parted_at}
-use Rattle.lic_norm.specs.Tokens.{TokenValue}
-use Rattle.lic_norm.specs.Places.{IsTokenEnd, place_end, place_start, texts_of}
-use Rattle.lic_norm.proofs.PartedLemmas.{begins-ascii, ends-ascii}
+use Rattle.lic_tokens.specs.Tokens.{TokenValue}
+use Rattle.lic_tokens.specs.Places.{IsTokenEnd, place_end, place_start, texts_of}
+use Rattle.lic_tokens.proofs.PartedLemmas.{begins-ascii, ends-ascii}
 use Rattle.lic_places.specs.Places.{AreTexts, Occurs, spelling_of}
 use Rattle.lic_places.proofs.Occurring.{Occurs-drop}
 use Rattle.lic_places.proofs.TieEnds.{text-utf8}

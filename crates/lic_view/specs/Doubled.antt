@@ -1,6 +1,6 @@
 -- Single places that a span of many has too.
 use Rattle.std.specs.Prelude.{◌≡◌, ℕ, ◌+◌, ◌<◌, ◌≤◌, List, Contains, IsTrue}
-use Rattle.lic_norm.specs.Tokens.{TokenValue}
+use Rattle.lic_tokens.specs.Tokens.{TokenValue}
 use Rattle.lic_places.specs.Places.{is_blank_at, spelling_of}
 use Rattle.lic_spans.specs.declared.span.SpanKind.TheVariants.{Place}
 use Rattle.lic_spans.specs.declared.span.PlaceSpan.{PlaceSpan}

@@ -1,8 +1,8 @@
 -- Sets of places of a text, given as spans of numbers of a kind, each with the last token of a match.
 use Rattle.std.specs.Prelude.{◌≡◌, ℕ, ◌<◌, ◌≤◌, List, All, length, slice_index}
 use Rattle.std.specs.Str.{IsCharBoundary}
-use Rattle.lic_norm.specs.Tokens.{TokenValue}
-use Rattle.lic_norm.specs.Places.{place_end}
+use Rattle.lic_tokens.specs.Tokens.{TokenValue}
+use Rattle.lic_tokens.specs.Places.{place_end}
 use Rattle.lic_places.specs.Places.{OverBlank, spelling_of}
 use Rattle.lic_spans.specs.Spans.{Holds}
 use Rattle.lic_spans.specs.declared.span.SpanKind.{SpanKind}

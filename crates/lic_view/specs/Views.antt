@@ -1,8 +1,8 @@
 -- What is looked for among the tokens of a text.
 use Rattle.std.specs.Prelude.{◌≡◌, ℕ, ◌+◌, ◌<◌, ◌≤◌, IsTrue, List, slice_range}
 use Rattle.lic_kind.specs.Kinds.{is_word_kind, kind_of}
-use Rattle.lic_norm.specs.Tokens.{TokenValue}
-use Rattle.lic_norm.specs.Places.{place_end, place_start}
+use Rattle.lic_tokens.specs.Tokens.{TokenValue}
+use Rattle.lic_tokens.specs.Places.{place_end, place_start}
 use Rattle.lic_places.specs.Places.{spelling_of}
 
 -- the first of `count` tokens whose place is this one or comes after it, or their number where there is none

@@ -1,8 +1,8 @@
-//! A text in canonical spelling, and where its tokens are in it.
+//! Tokens in canonical spelling, and where each of them is in it.
 
 ghost use Rattle.std.specs.Prelude.{◌≡◌, ◌+◌, ◌<◌, ◌≤◌, ◌↔◌, ℕ, IsTrue, length, slice_range, MatchOption};
 ghost use Rattle.std.specs.Str.{IsAscii, IsCharBoundary};
-ghost use Rattle.lic_norm.specs.Places.{IsTokenEnd, place_end, place_start};
+ghost use Rattle.lic_tokens.specs.Places.{IsTokenEnd, place_end, place_start};
 ghost use Rattle.lic_places.specs.Places.{AreTexts, IsAfterBlank, OverBlank, is_blank_at, spelling_of};
 ghost use Rattle.lic_view.specs.LettersBefore.{IsLetterBefore};
 ghost use Rattle.lic_view.specs.PlaceSets.{IsLetterPlace};
@@ -10,14 +10,13 @@ ghost use Rattle.lic_view.specs.Views.{AreSpelledFrom, IsFirstFrom, IsWordByte};
 
 use crate::last_letter::last_letter;
 use lic_kind::is_word;
-use lic_norm::laws::{tokens_are_token_texts, tokens_are_utf8};
-use lic_norm::{Text, utf8_text};
+use lic_tokens::{TokenList, utf8_text};
 use std::marker::Model;
 
-/// Tokens of a text that follow one another, in canonical spelling. A place is a number of bytes of it.
+/// Tokens of a list that follow one another, in canonical spelling. A place is a number of bytes of it.
 #[derive(Debug, Drop)]
 pub struct View<'t> {
-    text: &'t Text,
+    tokens: &'t TokenList,
     // the number of the first token, and how many there are
     first: usize,
     count: usize,
@@ -30,38 +29,38 @@ pub struct View<'t> {
 impl<'t> Model for View<'t> {
     ghost use Rattle.std.specs.Prelude.{◌+◌, ◌≤◌, IsTrue, List, length, slice_range};
     ghost use Rattle.std.specs.Str.{IsAscii};
-    ghost use Rattle.lic_norm.specs.Tokens.{TokenValue};
+    ghost use Rattle.lic_tokens.specs.Tokens.{TokenValue};
     ghost use Rattle.lic_places.specs.Places.{AreTexts};
     ghost use Rattle.lic_view.specs.Views.{AreSpelledFrom};
 
     ghost Value = { List TokenValue };
 
-    ghost view = { λ v. slice_range v.text.now.tokens v.first (v.first + v.count) };
+    ghost view = { λ v. slice_range v.tokens.now v.first (v.first + v.count) };
 
-    ghost invariant = { λ v. (v.first + v.count ≤ length v.text.now.tokens)
-        × AreTexts (slice_range v.text.now.tokens v.first (v.first + v.count))
-        × AreSpelledFrom v.text.now.tokens v.first v.count v.start v.spelled.now
+    ghost invariant = { λ v. (v.first + v.count ≤ length v.tokens.now)
+        × AreTexts (slice_range v.tokens.now v.first (v.first + v.count))
+        × AreSpelledFrom v.tokens.now v.first v.count v.start v.spelled.now
         × (IsTrue v.is_ascii → IsAscii v.spelled.now) };
 }
 
 impl<'t> View<'t> {
-    /// All tokens of a text.
-    pub fn new(text: &'t Text) -> View<'t>
-        ensures { result ≡ text.now.tokens }
+    /// All tokens of a list.
+    pub fn new(tokens: &'t TokenList) -> View<'t>
+        ensures { result ≡ tokens.now }
     {
-        View::of(text, 0, text.len())
+        View::of(tokens, 0, tokens.len())
     }
 
-    /// `count` tokens of a text from the token number `first` on.
-    pub fn of(text: &'t Text, first: usize, count: usize) -> View<'t>
-        requires { first + count ≤ length text.now.tokens }
-        ensures { result ≡ slice_range text.now.tokens first (first + count) }
+    /// `count` tokens of a list from the token number `first` on.
+    pub fn of(tokens: &'t TokenList, first: usize, count: usize) -> View<'t>
+        requires { first + count ≤ length tokens.now }
+        ensures { result ≡ slice_range tokens.now first (first + count) }
     {
-        tokens_are_utf8(text);
-        tokens_are_token_texts(text);
-        let (start, spelled) = spelled_from(text, first, count);
+        tokens.texts_are_utf8();
+        tokens.texts_are_token_texts();
+        let (start, spelled) = spelled_from(tokens, first, count);
         View {
-            text,
+            tokens,
             first,
             count,
             start,
@@ -106,8 +105,8 @@ impl View<'_> {
         requires { i < length self.now }
         ensures { result ≡ place_end self.now i }
     {
-        let _length = self.text.len();
-        self.text.place(self.first + i).end - self.start
+        let _length = self.tokens.len();
+        self.tokens.place(self.first + i).end - self.start
     }
 
     /// The place at which the token number `i` begins.
@@ -115,8 +114,8 @@ impl View<'_> {
         requires { i < length self.now }
         ensures { result ≡ place_start self.now i }
     {
-        let _length = self.text.len();
-        self.text.place(self.first + i).start - self.start
+        let _length = self.tokens.len();
+        self.tokens.place(self.first + i).start - self.start
     }
 
     /// Whether no letter is cut at a place.
@@ -229,25 +228,25 @@ fn is_word_byte(byte: u8) -> bool
     byte.is_ascii() && is_word(byte as char)
 }
 
-// Where `count` tokens of a text, from a token on, begin in its canonical spelling, and their own spelling.
-fn spelled_from(text: &Text, first: usize, count: usize) -> (usize, &str)
-    requires { first + count ≤ length text.now.tokens }
-    ensures { AreSpelledFrom text.now.tokens first count result.0 result.1.now }
+// Where `count` tokens of a list, from a token on, begin in its canonical spelling, and their own spelling.
+fn spelled_from(tokens: &TokenList, first: usize, count: usize) -> (usize, &str)
+    requires { first + count ≤ length tokens.now }
+    ensures { AreSpelledFrom tokens.now first count result.0 result.1.now }
 {
-    tokens_are_utf8(text);
-    tokens_are_token_texts(text);
-    let _length = text.len();
+    tokens.texts_are_utf8();
+    tokens.texts_are_token_texts();
+    let _length = tokens.len();
     if count == 0 {
         return (0, "");
     }
-    let start = text.place(first).start;
-    let end = text.place(first + count - 1).end;
-    (start, utf8_text(&text.spelled()[start..end]))
+    let start = tokens.place(first).start;
+    let end = tokens.place(first + count - 1).end;
+    (start, utf8_text(&tokens.spelled()[start..end]))
 }
 
 /// The texts of tokens are in UTF-8, and none is empty.
 pub fn tokens_have_texts(view: &View<'_>)
     ensures { AreTexts view.now }
 {
-    let _ = &view.text;
+    let _ = &view.tokens;
 }

@@ -8,13 +8,13 @@ ghost use Rattle.lic_lines.specs.Cells.{cells_of};
 ghost use Rattle.lic_lines.specs.Streaks.{streaks_joined};
 ghost use Rattle.lic_lines.specs.Tokens.{Token, first_tokens, line_tokens};
 ghost use Rattle.lic_norm.specs.Feeding.{AreLines};
-ghost use Rattle.lic_tokens.specs.Taking.{HasTaken, HasTakenSome, phrases_of};
+ghost use Rattle.lic_rewriting.specs.Taking.{HasTaken, HasTakenSome, phrases_of};
 ghost use Rattle.lic_norm.specs.Tokens.{first_tokens_of, line_tokens_of};
 
 use crate::reader::characters::read_characters;
 use lic_columns::Lines;
 use lic_lines::{Rules, left_of_line};
-use lic_tokens::{Batch, PartBuffers, Rewriting, Stretch};
+use lic_rewriting::{Batch, PartBuffers, Rewriting, Stretch};
 use lic_trim::{LinePart, SourceChar, cut_line};
 use std::alloc::{AllocError, Global};
 use std::fmt;

@@ -4,8 +4,8 @@ use Rattle.std.proofs.lemmas.Bool.{true≢false}
 use Rattle.std.specs.Char.{encode_utf8}
 use Rattle.std.specs.Str.{chars}
 use Rattle.lic_kind.specs.Kinds.{kind_of}
-use Rattle.lic_norm.specs.Tokens.{TokenValue}
-use Rattle.lic_norm.specs.Places.{place_start, place_end}
+use Rattle.lic_tokens.specs.Tokens.{TokenValue}
+use Rattle.lic_tokens.specs.Places.{place_start, place_end}
 use Rattle.lic_places.specs.Places.{IsAfterBlank, OverBlank, is_blank_at, spelling_of}
 use Rattle.lic_places.specs.Places.OverBlank.{over, stays}
 use Rattle.lic_places.specs.Reads.{Takes, Reads, ReadsTokens}

@@ -2,10 +2,10 @@
 
 ghost use Rattle.std.specs.Prelude.{◌≡◌, ◌<◌, ◌↔◌, List, Contains, IfOk, IfSome, map};
 ghost use Rattle.lic_ere.specs.Trees.{char, sequence, tree_of};
-ghost use Rattle.lic_markup.specs.Meaning.{sequence_words, tree_words};
+ghost use Rattle.lic_ere.specs.Meaning.{sequence_words, tree_words};
 ghost use Rattle.lic_words.specs.Expressions.{Language};
 ghost use Rattle.lic_words.specs.Words.{blank};
-ghost use Rattle.lic_norm.specs.Tokens.{TokenValue};
+ghost use Rattle.lic_tokens.specs.Tokens.{TokenValue};
 ghost use Rattle.lic_spans.specs.declared.span.PlaceSpan.{PlaceSpan};
 ghost use Rattle.lic_reverse.specs.Grouped.{AreGroupedWays};
 ghost use Rattle.lic_reverse.specs.LetterGroups.{EndIn, HasEntry, IsPartFor};

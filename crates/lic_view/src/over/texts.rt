@@ -3,7 +3,7 @@
 ghost use Rattle.std.specs.Prelude.{◌≡◌, ◌<◌, ◌∷◌, [], length, IfOk, if◌then◌else◌};
 ghost use Rattle.std.specs.Str.{chars};
 ghost use Rattle.lic_words.specs.Expressions.{Language, letters};
-ghost use Rattle.lic_pieces.specs.PieceTexts.{IsPieceText};
+ghost use Rattle.lic_phrases.specs.PieceTexts.{IsPieceText};
 ghost use Rattle.lic_view.specs.Backward.{IsBack};
 ghost use Rattle.lic_view.specs.PlaceSets.{ArePlaced};
 ghost use Rattle.lic_places.specs.Texts.{AreLettersIfAny, IsBlankIf};

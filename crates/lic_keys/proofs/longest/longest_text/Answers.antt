@@ -1,6 +1,6 @@
 -- One part more: a longer text, another text, or no text.
 use Rattle.std.proofs.Common.{◌+◌, ◌≤◌, List, ℕ, length, arith, subst, sym}
-use Rattle.lic_pieces.specs.PieceTexts.{IsPieceText}
+use Rattle.lic_phrases.specs.PieceTexts.{IsPieceText}
 use Rattle.lic_places.specs.Texts.{AreEdges}
 use Rattle.lic_keys.specs.Required.{HasLetters}
 use Rattle.lic_keys.proofs.LongestLemmas.{IsLongest, longest-all, longest-more, longest-other, longest-same, other-no_letters, text-letters, text-most, text-piece}

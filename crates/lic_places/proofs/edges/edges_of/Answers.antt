@@ -1,6 +1,6 @@
 -- The letters of the bytes are those of the text.
 use Rattle.std.proofs.Common.{sym, subst}
-use Rattle.lic_pieces.specs.PieceTexts.{IsPieceText}
+use Rattle.lic_phrases.specs.PieceTexts.{IsPieceText}
 use Rattle.lic_places.specs.Texts.{AreEdges}
 use Rattle.lic_places.proofs.EdgeLemmas.{are_edges}
 use Rattle.lic_places.proofs.edges.edges_of.Goals as goal

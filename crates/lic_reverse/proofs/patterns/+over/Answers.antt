@@ -3,7 +3,7 @@ use Rattle.lic_words.specs.Expressions.{Language}
 use Rattle.lic_ere.specs.declared.ere.Ere.{the_lemmas}
 use Rattle.lic_ere.specs.declared.ere.Ere.TheVariants.{Empty}
 use Rattle.lic_ere.specs.Trees.{sequence, tree_of}
-use Rattle.lic_markup.specs.Meaning.{choice_words, sequence_words, tree_words}
+use Rattle.lic_ere.specs.Meaning.{choice_words, sequence_words, tree_words}
 use Rattle.lic_view.specs.PlaceSets.{Reaches}
 use Rattle.lic_reverse.specs.Reached.{reached_of}
 use Rattle.lic_reverse.specs.Tidily.{IsTidyBack, UpTo, spans_of}

@@ -3,7 +3,7 @@ use Rattle.std.specs.Prelude.{IfSome}
 use Rattle.lic_words.specs.Words.{Power}
 use Rattle.lic_words.specs.Expressions.{Language}
 use Rattle.lic_ere.specs.Trees.{sequence, tree_of}
-use Rattle.lic_markup.specs.Meaning.{choice_words, sequence_words, tree_words}
+use Rattle.lic_ere.specs.Meaning.{choice_words, sequence_words, tree_words}
 use Rattle.lic_reverse.specs.Grouped.{AreGroupedWays}
 use Rattle.lic_reverse.specs.Reached.{reached_of}
 use Rattle.lic_reverse.specs.Tidily.{IsTidyBack, spans_of}

@@ -2,7 +2,7 @@ use Rattle.std.proofs.Common.{refl}
 use Rattle.lic_words.specs.Words.{IsTidy}
 use Rattle.lic_words.specs.Expressions.{Language, tidy}
 use Rattle.lic_ere.specs.Trees.{tree_of}
-use Rattle.lic_markup.specs.Meaning.{tree_words}
+use Rattle.lic_ere.specs.Meaning.{tree_words}
 use Rattle.lic_view.specs.PlaceSets.{Reaches}
 use Rattle.lic_view.specs.Backward.{IsBack}
 use Rattle.lic_reverse.specs.declared.ways.Ways.{Ways}

@@ -31,16 +31,17 @@ loop-candidate-preserved c =
     let invariant = c.loop-candidate.invariant in
     let rising = c.in_ok-candidates.ensures.rising in
     let all : items ≡ c.in_ok-candidates.candidates.items = c.deref-candidate-items.ensures.value in
+    let same : c.new-view.result ≡ tokens = c.new-view.ensures ∙ c.tokens.ensures in
     let order = numbers_rise items index candidate (length set) c.loop-candidate-test.true c.candidate-item.is (subst (λ (x : List Candidate). IsRising (map number_of x) (length set)) (sym all) rising) in
     record {
       has =
           subst (λ (numbers : List ℕ). HasAllOf set tokens numbers new.bundles.items new.left.items)
           (sym (numbers_more items index candidate c.loop-candidate-test.true c.candidate-item.is))
           (all_more set tokens (map number_of (take index items)) candidate.number old new invariant.has order.0 order.1
-          (subst (λ (tokens : List TokenValue). AddsTemplate set tokens candidate.number old new) c.new-view.ensures c.in_ok-add_template.ensures.adds));
-      few = subst (λ (tokens : List TokenValue). length new.bundles.items ≤ length tokens + 262144) c.new-view.ensures
+          (subst (λ (tokens : List TokenValue). AddsTemplate set tokens candidate.number old new) same c.in_ok-add_template.ensures.adds));
+      few = subst (λ (tokens : List TokenValue). length new.bundles.items ≤ length tokens + 262144) same
           (c.in_ok-add_template.ensures.few
-          (subst (λ (tokens : List TokenValue). length old.bundles.items ≤ length tokens + 262144) (sym c.new-view.ensures) invariant.few));
+          (subst (λ (tokens : List TokenValue). length old.bundles.items ≤ length tokens + 262144) (sym same) invariant.few));
     }
 
 pub returns-clause-complete : goal.returns-clause-complete

@@ -2,7 +2,7 @@
 use Rattle.std.proofs.Common.{◌≡◌, ℕ, ◌-◌, ◌<◌, List, false, length, arith, subst, sym, ◌∙◌}
 use Rattle.std.specs.Prelude.{◌==◌}
 use Rattle.std.proofs.lemmas.Bool.Decides.{nat_tests}
-use Rattle.lic_pieces.specs.PieceTexts.{IsPieceText}
+use Rattle.lic_phrases.specs.PieceTexts.{IsPieceText}
 use Rattle.lic_places.specs.Texts.{AreEdges}
 use Rattle.lic_keys.proofs.LongestLemmas.{text-letters, text-piece}
 use Rattle.lic_search.proofs.last_text.last_text.Goals as goal

@@ -1,7 +1,7 @@
 -- The most letters of the words of the patterns so far.
 use Rattle.std.proofs.Common.{◌<◌, map, take}
 use Rattle.lic_ere.specs.Trees.{sequence, tree_of}
-use Rattle.lic_markup.specs.Meaning.{choice_words, sequence_words}
+use Rattle.lic_ere.specs.Meaning.{choice_words, sequence_words}
 use Rattle.lic_search.specs.Windows.{HasAtMost}
 use Rattle.lic_search.proofs.reach.+most_letters.Given as goal
 

@@ -24,7 +24,7 @@ loop-candidate-preserved c =
     (sym (numbers_more items index candidate c.loop-candidate-test.true c.candidate-item.is))
     (least_more c.args.set.now c.args.text.now.tokens (map number_of (take index items)) candidate.number c.loop-candidate.found.items c.add_template.new.found.items
     c.loop-candidate.invariant
-    (subst (λ (tokens : List TokenValue). AddsLeast c.args.set.now tokens candidate.number c.loop-candidate.found.items c.add_template.new.found.items) c.new-view.ensures c.in_ok-add_template.ensures))
+    (subst (λ (tokens : List TokenValue). AddsLeast c.args.set.now tokens candidate.number c.loop-candidate.found.items c.add_template.new.found.items) (c.new-view.ensures ∙ c.tokens.ensures) c.in_ok-add_template.ensures))
 
 pub returns : goal.returns
 returns c =

@@ -2,7 +2,7 @@
 use Rattle.std.proofs.Common.{◌≡◌, ℕ, ◌-◌, ◌<◌, ◌≤◌, List, ◌∷◌, ◌++◌, Option, length, map, drop, take, chars, get_or, sym, ap, ◌∙◌, subst, arith}
 use Rattle.std.proofs.lemmas.Bool.{true≢false}
 use Rattle.lic_ere.specs.Trees.{tree_of}
-use Rattle.lic_markup.specs.Meaning.{tree_words}
+use Rattle.lic_ere.specs.Meaning.{tree_words}
 use Rattle.lic_norm.specs.Tokens.{TokenValue}
 use Rattle.lic_tokens.specs.declared.token.Span.{Span}
 use Rattle.lic_vars.specs.Making.{CanMake}

@@ -1,7 +1,7 @@
 use Rattle.std.proofs.Common.{◌≡◌, length, refl, rules, ◌∙◌, ap}
 use Rattle.std.specs.Str.{chars}
 use Rattle.lic_vars.specs.Moves.{text, variable}
-use Rattle.lic_markup.specs.Meaning.{tree_words}
+use Rattle.lic_ere.specs.Meaning.{tree_words}
 use Rattle.lic_ere.specs.Trees.{tree_of}
 use Rattle.lic_markup.specs.declared.part.Part.{the_lemmas}
 use Rattle.lic_vars.proofs.PartLemmas.{more-Text, more-Var, more-Optional, pushed, pushed-optional, pieces-pushed, pieces-appended, text-piece, body-texts}

@@ -1,7 +1,7 @@
 -- The shortest word of a variable.
 use Rattle.std.proofs.Common.{◌≡◌, false, sym, subst, arith}
 use Rattle.lic_ere.specs.Trees.{tree_of}
-use Rattle.lic_markup.specs.Meaning.{tree_words}
+use Rattle.lic_ere.specs.Meaning.{tree_words}
 use Rattle.lic_vars.specs.Shortest.{IsShortest}
 use Rattle.lic_vars.proofs.StepOverLemmas.{cut_at}
 use Rattle.lic_vars.proofs.ShortestLemmas.{end_of, shortest-empty, shortest-letters}

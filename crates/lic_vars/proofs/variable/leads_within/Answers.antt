@@ -3,7 +3,7 @@ use Rattle.std.proofs.Common.{◌≡◌, vec_len, sym, ◌∙◌, arith}
 use Rattle.std.proofs.lemmas.Bool.{eqb-true, false≢true}
 use Rattle.std.proofs.lemmas.List.{nil_from_length}
 use Rattle.lic_ere.specs.Trees.{tree_of}
-use Rattle.lic_markup.specs.Meaning.{tree_words}
+use Rattle.lic_ere.specs.Meaning.{tree_words}
 use Rattle.lic_vars.proofs.WithinLemmas.{leads-back, leads-none, within-placed}
 use Rattle.lic_vars.proofs.variable.leads_within.Goals as goal
 

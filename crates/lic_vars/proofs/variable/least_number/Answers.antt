@@ -2,7 +2,7 @@
 use Rattle.std.proofs.Common.{◌+◌, length, refl, sym, ap, ◌∙◌, subst, arith}
 use Rattle.std.proofs.lemmas.Bool.{true≢false}
 use Rattle.lic_ere.specs.Trees.{tree_of}
-use Rattle.lic_markup.specs.Meaning.{tree_words}
+use Rattle.lic_ere.specs.Meaning.{tree_words}
 use Rattle.lic_vars.specs.Shortest.{IsBetween}
 use Rattle.lic_vars.proofs.WithinLemmas.{between-all, between-above, between-next, between-one, leads-from}
 use Rattle.lic_vars.proofs.variable.least_number.Goals as goal

@@ -1,7 +1,7 @@
 -- The least number lies between the bounds.
 use Rattle.std.proofs.Common.{◌-◌}
 use Rattle.lic_ere.specs.Trees.{tree_of}
-use Rattle.lic_markup.specs.Meaning.{tree_words}
+use Rattle.lic_ere.specs.Meaning.{tree_words}
 use Rattle.lic_vars.specs.Shortest.{IsBetween}
 use Rattle.lic_vars.proofs.variable.least_number.Given as goal
 

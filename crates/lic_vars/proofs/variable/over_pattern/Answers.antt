@@ -1,6 +1,6 @@
 -- Where the empty word is the only one, the places are those themselves.
 use Rattle.lic_ere.specs.Trees.{tree_of}
-use Rattle.lic_markup.specs.Meaning.{tree_words}
+use Rattle.lic_ere.specs.Meaning.{tree_words}
 use Rattle.lic_reverse.proofs.EmptyWords.{alone-back}
 use Rattle.lic_vars.proofs.variable.over_pattern.Goals as goal
 

@@ -3,7 +3,7 @@ use Rattle.std.proofs.Common.{arith, ◌+◌, ◌-◌, ◌<◌, ◌≤◌, lengt
 use Rattle.std.specs.Prelude.{slice_range, IsUtf8}
 use Rattle.std.specs.Str.{IsCharBoundary}
 use Rattle.std.proofs.lemmas.Str.{IsUtf8-between}
-use Rattle.lic_norm.specs.Places.{place_start, place_end}
+use Rattle.lic_tokens.specs.Places.{place_start, place_end}
 use Rattle.lic_places.specs.Places.{AreTexts, spelling_of}
 use Rattle.lic_places.proofs.TokenPlaces.{spelling-utf8}
 use Rattle.lic_view.proofs.Laws.{tokens_are_at-order}
@@ -14,8 +14,8 @@ use Rattle.lic_view.proofs.view.spelled_from.Goals as goal
 
 pub slice_bounds-utf8_text-count : goal.slice_bounds-utf8_text-count
 slice_bounds-utf8_text-count c =
-    let tokens = c.args.text.now.tokens in
-    let texts : AreTexts tokens = record { utf8 = c.tokens_are_utf8.ensures; texts = c.tokens_are_token_texts.ensures } in
+    let tokens = c.args.tokens.now in
+    let texts : AreTexts tokens = record { utf8 = c.texts_are_utf8.ensures; texts = c.texts_are_token_texts.ensures } in
     let some : 0 < c.args.count = omega (arith, c.if-count-eq0.false) in
     let first : place_start tokens c.args.first < place_end tokens c.args.first = tokens_are_at-order tokens c.args.first texts (omega (arith, c.requires)) in
     omega (
@@ -28,8 +28,8 @@ slice_bounds-utf8_text-count c =
 
 pub slice_bounds-utf8_text-start : goal.slice_bounds-utf8_text-start
 slice_bounds-utf8_text-start c =
-    let tokens = c.args.text.now.tokens in
-    let texts : AreTexts tokens = record { utf8 = c.tokens_are_utf8.ensures; texts = c.tokens_are_token_texts.ensures } in
+    let tokens = c.args.tokens.now in
+    let texts : AreTexts tokens = record { utf8 = c.texts_are_utf8.ensures; texts = c.texts_are_token_texts.ensures } in
     let some : 0 < c.args.count = omega (arith, c.if-count-eq0.false) in
     let first : place_start tokens c.args.first < place_end tokens c.args.first = tokens_are_at-order tokens c.args.first texts (omega (arith, c.requires)) in
     omega (
@@ -42,18 +42,18 @@ slice_bounds-utf8_text-start c =
 
 pub slice_bounds-utf8_text-end : goal.slice_bounds-utf8_text-end
 slice_bounds-utf8_text-end c =
-    let tokens = c.args.text.now.tokens in
-    let texts : AreTexts tokens = record { utf8 = c.tokens_are_utf8.ensures; texts = c.tokens_are_token_texts.ensures } in
+    let tokens = c.args.tokens.now in
+    let texts : AreTexts tokens = record { utf8 = c.texts_are_utf8.ensures; texts = c.texts_are_token_texts.ensures } in
     let whole : IsCharBoundary (spelling_of tokens) (place_end tokens (c.args.first + c.args.count - 1)) =
     end-whole tokens (c.args.first + c.args.count - 1) texts (omega (arith, c.requires, c.if-count-eq0.false)) in
     omega (arith, c.place-end.ensures.end, ap length c.spelled.ensures, whole.0)
 
 pub utf8_text-requires : goal.utf8_text-requires
 utf8_text-requires c =
-    let tokens = c.args.text.now.tokens in
+    let tokens = c.args.tokens.now in
     let first = c.args.first in
     let last = c.args.first + c.args.count - 1 in
-    let texts : AreTexts tokens = record { utf8 = c.tokens_are_utf8.ensures; texts = c.tokens_are_token_texts.ensures } in
+    let texts : AreTexts tokens = record { utf8 = c.texts_are_utf8.ensures; texts = c.texts_are_token_texts.ensures } in
     let order : place_start tokens first ≤ place_end tokens last =
     omega (
       arith,
@@ -69,9 +69,9 @@ utf8_text-requires c =
 
 pub returns : goal.returns
 returns c =
-    spelled-at c.args.text.now.tokens c.args.first c.args.count c.requires c.place-start.result.start c.place-end.result.end
+    spelled-at c.args.tokens.now c.args.first c.args.count c.requires c.place-start.result.start c.place-end.result.end
     c.spelled.result.now c.utf8_text.result.now (omega (arith, c.if-count-eq0.false)) c.place-start.ensures.start c.place-end.ensures.end
     c.spelled.ensures c.utf8_text.ensures
 
 pub returns-then-count-eq0 : goal.returns-then-count-eq0
-returns-then-count-eq0 c = spelled-none c.args.text.now.tokens c.args.first c.args.count c.requires 0 c.if-count-eq0.true
+returns-then-count-eq0 c = spelled-none c.args.tokens.now c.args.first c.args.count c.requires 0 c.if-count-eq0.true

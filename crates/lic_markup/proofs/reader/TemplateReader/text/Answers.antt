@@ -1,7 +1,7 @@
 use Rattle.std.proofs.Common.{sym, subst, string_bytes}
 use Rattle.std.proofs.lemmas.Str.{IsUtf8-string_bytes}
 use Rattle.lic_kind.specs.LineRules.{rules_of}
-use Rattle.lic_pieces.specs.PieceTexts.{IsPieceText}
+use Rattle.lic_phrases.specs.PieceTexts.{IsPieceText}
 use Rattle.lic_markup.specs.Parts.{sequence}
 use Rattle.lic_markup.specs.PartTexts.{HavePieceTexts}
 use Rattle.lic_markup.specs.Reading.{PartLevel}

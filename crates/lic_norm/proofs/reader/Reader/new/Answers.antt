@@ -1,7 +1,7 @@
 use Rattle.std.proofs.Common.{refl, sym, subst, arith, inl}
 use Rattle.lic_kind.specs.LineRules.{rules_of}
 use Rattle.lic_phrases.specs.TokenTexts.{HaveTokenTexts}
-use Rattle.lic_tokens.specs.Taking.{HasTaken}
+use Rattle.lic_rewriting.specs.Taking.{HasTaken}
 use Rattle.lic_norm.proofs.FirstLines.{first_tokens_of-none}
 use Rattle.lic_norm.proofs.reader.Reader.new.Goals as goal
 

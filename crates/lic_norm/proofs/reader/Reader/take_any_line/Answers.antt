@@ -1,7 +1,7 @@
 use Rattle.std.proofs.Common.{◌++◌, ap, subst, ◌∙◌, take}
 use Rattle.std.specs.List.{slice_range}
 use Rattle.lic_kind.specs.LineRules.{rules_of}
-use Rattle.lic_tokens.specs.Taking.{HasTaken}
+use Rattle.lic_rewriting.specs.Taking.{HasTaken}
 use Rattle.lic_norm.specs.Tokens.{first_tokens_of, line_tokens_of}
 use Rattle.lic_norm.proofs.WholeLines.{one_more_line}
 use Rattle.lic_norm.proofs.reader.Reader.take_any_line.Goals as goal

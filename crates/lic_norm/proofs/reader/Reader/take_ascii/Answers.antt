@@ -1,6 +1,6 @@
 use Rattle.std.proofs.Common.{◌++◌, ◌-◌, ap, subst, ◌∙◌, take, drop, length-take, length-drop, arith}
 use Rattle.lic_kind.specs.LineRules.{rules_of}
-use Rattle.lic_tokens.specs.Taking.{HasTaken}
+use Rattle.lic_rewriting.specs.Taking.{HasTaken}
 use Rattle.lic_norm.specs.Tokens.{first_tokens_of}
 use Rattle.std.specs.List.{slice_range}
 use Rattle.lic_norm.proofs.WholeLines.{more_bytes}

@@ -3,7 +3,7 @@ use Rattle.std.specs.List.{slice_range}
 use Rattle.lic_kind.specs.LineRules.{rules_of}
 use Rattle.lic_norm.specs.LineEnds.{IsFirstLine}
 use Rattle.lic_norm.specs.Reading.{HasRead}
-use Rattle.lic_tokens.specs.Taking.{HasTaken}
+use Rattle.lic_rewriting.specs.Taking.{HasTaken}
 use Rattle.lic_norm.specs.Tokens.{first_tokens_of}
 use Rattle.lic_norm.specs.declared.reader.Reader.{Reader}
 use Rattle.lic_norm.proofs.reader.Reader.take_line.Goals as goal

@@ -3,7 +3,7 @@ use Rattle.lic_kind.specs.LineRules.{rules_of}
 use Rattle.lic_trim.specs.Lines.{whole_line}
 use Rattle.lic_trim.specs.Sources.{without_dropped}
 use Rattle.lic_lines.specs.Tokens.{line_tokens}
-use Rattle.lic_tokens.specs.Taking.{HasTaken}
+use Rattle.lic_rewriting.specs.Taking.{HasTaken}
 use Rattle.lic_norm.specs.Sources.{source_of}
 use Rattle.lic_norm.proofs.ReadingLemmas.{line_tokens_of-is}
 use Rattle.lic_norm.proofs.reader.line_tokens.take_any_line.Goals as goal

@@ -2,11 +2,11 @@ use Rattle.std.proofs.Common.{◌++◌, ap, length, sym, subst, ◌∙◌}
 use Rattle.lic_kind.specs.LineRules.{rules_of}
 use Rattle.lic_trim.specs.Sources.{placed}
 use Rattle.lic_lines.specs.Tokens.{single_signs}
-use Rattle.lic_tokens.specs.Taking.{HasTaken}
+use Rattle.lic_rewriting.specs.Taking.{HasTaken}
 use Rattle.lic_tokens.specs.Tokens.{HaveTexts}
 use Rattle.lic_norm.proofs.AsciiLines.{first_tokens_of-ascii}
 use Rattle.lic_norm.proofs.StretchPlaces.{ascii_places}
-use Rattle.lic_tokens.proofs.TokenTexts.{lines-texts}
+use Rattle.lic_rewriting.proofs.TokenTexts.{lines-texts}
 use Rattle.lic_norm.proofs.reader.line_tokens.take_ascii.Goals as goal
 
 pub of-stretch-requires : goal.of-stretch-requires

@@ -3,13 +3,13 @@ use Rattle.std.specs.Str.{chars}
 use Rattle.lic_kind.specs.LineRules.{rules_of}
 use Rattle.lic_trim.specs.Sources.{placed}
 use Rattle.lic_lines.specs.Tokens.{single_signs}
-use Rattle.lic_tokens.specs.Taking.{HasTaken}
+use Rattle.lic_rewriting.specs.Taking.{HasTaken}
 use Rattle.lic_tokens.specs.Tokens.{HaveTexts}
 use Rattle.lic_norm.specs.Tokens.{first_tokens_of}
 use Rattle.lic_norm.proofs.AsciiLines.{first_tokens_of-utf8}
 use Rattle.lic_norm.proofs.FirstLines.{first_tokens_of-none}
 use Rattle.lic_norm.proofs.StretchPlaces.{simple_places}
-use Rattle.lic_tokens.proofs.TokenTexts.{lines-texts}
+use Rattle.lic_rewriting.proofs.TokenTexts.{lines-texts}
 use Rattle.lic_norm.proofs.reader.line_tokens.take_front.Goals as goal
 
 pub of-stretch-requires : goal.of-stretch-requires

@@ -6,7 +6,7 @@ use Rattle.lic_trim.specs.Sources.{chars_of}
 use Rattle.lic_lines.specs.Cells.{cells_of_cut, left_of}
 use Rattle.lic_lines.specs.Tokens.{line_tokens, text_tokens_after, tokens_of_cells}
 use Rattle.lic_lines.proofs.TokenLemmas.{left_of-range, tokens_of_cut}
-use Rattle.lic_tokens.specs.Taking.{HasTaken}
+use Rattle.lic_rewriting.specs.Taking.{HasTaken}
 use Rattle.lic_norm.proofs.reader.line_tokens.take_long_line.Goals as goal
 
 pub returns-clause-taken : goal.returns-clause-taken

@@ -1,7 +1,7 @@
 -- The letter of a pattern that is one.
 use Rattle.std.proofs.Common.{sym, subst}
 use Rattle.lic_ere.specs.Trees.{tree_of}
-use Rattle.lic_markup.specs.Meaning.{tree_words}
+use Rattle.lic_ere.specs.Meaning.{tree_words}
 use Rattle.lic_words.specs.Expressions.{Language}
 use Rattle.lic_reverse.specs.LetterGroups.{EndIn}
 use Rattle.lic_reverse.proofs.EndingLemmas.{letter-end}

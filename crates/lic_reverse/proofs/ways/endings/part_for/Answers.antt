@@ -2,7 +2,7 @@
 use Rattle.std.proofs.Common.{subst}
 use Rattle.std.specs.Prelude.{IfSome}
 use Rattle.lic_ere.specs.Trees.{tree_of}
-use Rattle.lic_markup.specs.Meaning.{tree_words}
+use Rattle.lic_ere.specs.Meaning.{tree_words}
 use Rattle.lic_words.specs.Expressions.{Language}
 use Rattle.lic_reverse.specs.Grouped.{AreGroupedWays}
 use Rattle.lic_reverse.specs.Tidily.{spans_of}

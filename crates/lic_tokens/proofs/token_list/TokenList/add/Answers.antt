@@ -2,7 +2,7 @@ use Rattle.std.proofs.Common.{◌≡◌, ◌<◌, ◌^◌, ◌++◌, length, ap,
 use Rattle.lic_phrases.specs.Spelling.{ends_in_word, spelled}
 use Rattle.lic_tokens.specs.Entries.{entries_by}
 use Rattle.lic_tokens.specs.Places.{texts_of}
-use Rattle.lic_tokens.proofs.BatchLemmas.{kept-added, values-added}
+use Rattle.lic_tokens.proofs.AddedTokens.{kept-added, values-added}
 use Rattle.lic_tokens.proofs.EntryLemmas.{kept_near}
 use Rattle.lic_tokens.proofs.token_list.TokenList.add.Goals as goal
 use Rattle.lic_tokens.proofs.token_list.TokenList.add.Goals.{After-self-1}

@@ -1,6 +1,7 @@
 -- The values of a match.
-use Rattle.std.proofs.Common.{◌≡◌, ◌+◌, ◌-◌, List, map, refl, sym, subst}
+use Rattle.std.proofs.Common.{◌≡◌, ◌+◌, ◌-◌, List, ap, map, refl, sym, subst, ◌∙◌}
 use Rattle.std.specs.List.{slice_range}
+use Rattle.lic_norm.specs.Tokens.{TokenValue}
 use Rattle.lic_vars.specs.Cuts.{moves_of}
 use Rattle.lic_vars.specs.Moves.{moves}
 use Rattle.lic_vars.specs.Values.{AreValues, nodes_of}
@@ -21,7 +22,8 @@ least_values-requires-clause-can c =
     let moved : moves_of own.steps.items ≡ moves (nodes_of is.known) =
     moves-of own.set.now own.template own.steps.items v triple.template is.known c.self.invariant c.self.view_is c.requires.template is.number in
     let part : c.of-view.result ≡ slice_range tokens triple.first (triple.last + 1) =
-    tokens-of tokens c.of-view.result triple.first triple.last (triple.last - triple.first + 1) is.order refl c.of-view.ensures in
+    tokens-of tokens c.of-view.result triple.first triple.last (triple.last - triple.first + 1) is.order refl
+    (c.of-view.ensures ∙ ap (λ (l : List TokenValue). slice_range l triple.first (triple.first + (triple.last - triple.first + 1))) c.tokens.ensures) in
     let some = some-tokens tokens c.of-view.result triple.first triple.last is.order is.within part in
     rw c.deref-2.ensures.value
     (match-can v.set tokens c.of-view.result triple is.known own.steps.items is is.number moved c.tokens_have_texts.ensures some part)
@@ -36,7 +38,8 @@ returns c =
     let moved : moves_of own.steps.items ≡ moves (nodes_of is.known) =
     moves-of own.set.now own.template own.steps.items v triple.template is.known c.self.invariant c.self.view_is c.requires.template is.number in
     let part : c.of-view.result ≡ slice_range tokens triple.first (triple.last + 1) =
-    tokens-of tokens c.of-view.result triple.first triple.last (triple.last - triple.first + 1) is.order refl c.of-view.ensures in
+    tokens-of tokens c.of-view.result triple.first triple.last (triple.last - triple.first + 1) is.order refl
+    (c.of-view.ensures ∙ ap (λ (l : List TokenValue). slice_range l triple.first (triple.first + (triple.last - triple.first + 1))) c.tokens.ensures) in
     let some = some-tokens tokens c.of-view.result triple.first triple.last is.order is.within part in
     ok-then c.least_values.result _ _ c.least_values.ensures
     (λ x h.

@@ -1,6 +1,6 @@
 -- Either the token in the middle ends before the place, and so does each before it, or it ends there or after it, and so does each after it.
 use Rattle.std.proofs.Common.{ℕ, ◌+◌, ◌-◌, ◌/◌, ◌<◌, length, arith}
-use Rattle.lic_norm.specs.Places.{place_end}
+use Rattle.lic_tokens.specs.Places.{place_end}
 use Rattle.lic_view.proofs.ViewPlaces.{before-middle, from-middle}
 use Rattle.lic_view.proofs.view.View.first_ending_from.Goals as goal
 

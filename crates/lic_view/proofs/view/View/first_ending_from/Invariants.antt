@@ -1,6 +1,6 @@
 -- Tokens before `low` end before the place, those from `high` on end there or after it.
 use Rattle.std.proofs.Common.{ℕ, ◌-◌, ◌<◌, ◌≤◌, length}
-use Rattle.lic_norm.specs.Places.{place_end}
+use Rattle.lic_tokens.specs.Places.{place_end}
 use Rattle.lic_view.proofs.view.View.first_ending_from.Given as goal
 
 abbrev pub decreases-loop-low : goal.decreases-loop-low

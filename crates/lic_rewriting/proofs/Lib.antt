@@ -1,0 +1,8 @@
+pub mod GroupLemmas
+pub mod TokenTexts
+pub mod WordTexts
+pub mod WordBytes
+pub mod StretchTokens
+pub mod LeftTokens
+pub mod TakenSteps
+pub mod BatchLemmas

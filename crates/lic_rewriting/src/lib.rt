@@ -1,0 +1,10 @@
+//! From first tokens to the tokens of the rewriting, which are added to a list.
+#![tactic(auto)]
+
+mod rewriting;
+mod stretch;
+mod word_bytes;
+
+pub use rewriting::batch::Batch;
+pub use rewriting::{PartBuffers, Rewriting};
+pub use stretch::Stretch;

@@ -1,6 +1,0 @@
-use Rattle.std.proofs.Common.{ap}
-use Rattle.lic_tokens.specs.declared.rewriting.Rewriting.{Rewriting}
-use Rattle.lic_tokens.proofs.rewriting.Rewriting.reserve.Goals as goal
-
-pub returns : goal.returns
-returns c = let self : Rewriting = c.args.self.now in ap (λ ts. record self { tokens = ts }) c.reserve.ensures
