@@ -119,16 +119,15 @@ def workers():
 
 
 class Proving:
-    """Proves the crates of these names and those below them. `when_proved` is called with each crate's name and the seconds that it took, and
-    `when_run` with the folder of each run that passed. `faults` has, of each run that failed, the names of its crates and what rt said."""
+    """Proves the crates of these names and those below them. `when_run` is called with the folder of each run that passed."""
 
-    def __init__(self, top, names, log, when_proved=lambda name, seconds: None, when_run=lambda folder: None):
-        self.top, self.log, self.when_proved, self.when_run, self.start = top, log, when_proved, when_run, time.monotonic()
+    def __init__(self, top, names, log, when_run=lambda folder: None):
+        self.top, self.log, self.when_run, self.start = top, log, when_run, time.monotonic()
         self.crates = read_crates(top)
         self.all = from_the_ground(self.crates, names)
         self.chains = chains_above(top, self.crates, names)
         self.left, self.begun, self.proved = set(self.all), set(), set()
-        self.functions, self.jobs, self.faults, self.change = 0, 0, [], threading.Condition()
+        self.functions, self.jobs, self.has_failed, self.change = 0, 0, False, threading.Condition()
 
     def ready(self, names):
         """The crates that are not begun whose libraries are proved or have these names."""
@@ -149,7 +148,7 @@ class Proving:
     def take(self):
         """The crates to prove in the next run, how nice it is to the others, and how many jobs it has, or None where none is left."""
         with self.change:
-            while self.left and not self.faults:
+            while self.left and not self.has_failed:
                 if ready := self.ready([]):
                     running = self.begun - self.proved
                     name = max(ready, key=self.chains.get)
@@ -164,7 +163,7 @@ class Proving:
                 self.change.wait()
             return None
 
-    def add(self, name, functions, seconds):
+    def add(self, name, functions):
         """Says that a crate is proved, so that those begin that wait for it."""
         with self.change:
             if name in self.proved:
@@ -173,19 +172,18 @@ class Proving:
             self.functions += functions
             say(f"{len(self.proved)} of {len(self.all)} crates proved ({name}; {self.functions} functions so far; {minutes(self.start)})")
             self.change.notify_all()
-        self.when_proved(name, seconds)
 
     def prove_apart(self, names, nice, jobs):
         """Proves crates and those below them in a folder of their own, and returns the status and what is said."""
-        start, functions = time.monotonic(), 0
+        functions = 0
 
         def hear(line):
-            nonlocal start, functions
+            nonlocal functions
             if found := FUNCTIONS.search(line):
                 functions = int(found[1])
             if found := PROVED.match(line):
-                self.add(found[1].decode(), functions, time.monotonic() - start)
-                start, functions = time.monotonic(), 0
+                self.add(found[1].decode(), functions)
+                functions = 0
 
         with tempfile.TemporaryDirectory(prefix="licscan-proof-") as folder:
             copy_crates(self.top, from_the_ground(self.crates, names), folder)
@@ -204,11 +202,11 @@ class Proving:
                 file.write(said)
             self.jobs -= jobs
             if status:
-                self.faults.append((" ".join(names), said))
+                self.has_failed = True
                 self.change.notify_all()
         # those that the run did not name
         for name in [] if status else names:
-            self.add(name, 0, 0)
+            self.add(name, 0)
 
     def work(self):
         while taken := self.take():
@@ -226,4 +224,4 @@ class Proving:
         self.work()
         for thread in beside:
             thread.join()
-        return not self.faults
+        return not self.has_failed
