@@ -1,4 +1,7 @@
 //! The whole program.
+//!
+//! Each command is a function of its own on the stack (`inline(never)`): line rules and a word list have kilobytes, and each call that is
+//! inlined would have places of its own for them.
 
 ghost use Rattle.std.specs.Prelude.{◌≡◌, ◌≢◌, ◌≤◌, ℕ, List, Ok, Err, IfOk, map};
 ghost use Rattle.clap.specs.Matches.{found_of};
@@ -25,6 +28,7 @@ use std::alloc::Global;
 use std::rt::Files;
 
 /// The command `scan`: the arguments, the line rules, the word list, the templates by identifier, the files as given.
+#[inline(never)]
 fn scan<Rt: Files + AllocGlobal + Clone + Drop, R: Source, W: Sink, E: Sink>(
     rt: &Rt,
     alloc: Global,
@@ -69,6 +73,7 @@ fn scan<Rt: Files + AllocGlobal + Clone + Drop, R: Source, W: Sink, E: Sink>(
 }
 
 /// The command `check`: the arguments, the line rules, the word list, the templates by identifier.
+#[inline(never)]
 fn check_templates<Rt: Files + AllocGlobal + Clone + Drop, W: Sink, E: Sink>(
     rt: &Rt,
     alloc: Global,
@@ -98,6 +103,7 @@ fn check_templates<Rt: Files + AllocGlobal + Clone + Drop, W: Sink, E: Sink>(
 }
 
 /// The command `tokens`: the arguments, the line rules, the word list, the files as given.
+#[inline(never)]
 fn tokens<Rt: Files + AllocGlobal, R: Source, W: Sink, E: Sink>(
     rt: &Rt,
     alloc: Global,

@@ -36,6 +36,7 @@ fn read_rules(alloc: Global, bytes: &[u8]) -> Result<Rules, FileFault<RulesFault
 }
 
 /// The rules in a file, or those of this project's profile where no file is given. `-` is a file of that name.
+#[inline(never)]
 pub fn load_rules<Rt: Files>(rt: &Rt, alloc: Global, path: Option<&str>) -> Result<Rules, LoadFault>
     ensures profile { path.entry ≡ None → IfOk result (λ rules. rules_of rules ≡ profile) }
     ensures file { IsSome path.entry → IfOk result (λ rules. AreRulesOfFile (rules_of rules)) }

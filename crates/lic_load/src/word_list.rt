@@ -34,6 +34,7 @@ fn read_words(alloc: Global, bytes: &[u8]) -> Result<Words, FileFault<WordsFault
 }
 
 /// The list in a file, or the empty one where no file is given. `-` is a file of that name.
+#[inline(never)]
 pub fn load_words<Rt: Files>(rt: &Rt, alloc: Global, path: Option<&str>) -> Result<Words, LoadFault>
     ensures none { path.entry ≡ None → IfOk result (λ words. words ≡ []) }
     ensures file { IsSome path.entry → IfOk result IsListOfFile }
