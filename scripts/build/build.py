@@ -41,13 +41,15 @@ def build(top):
     """Proves all, builds the program, and returns the exit status."""
     to = f"{top}/crates/{PROGRAM}/out"
     proving = Proving(top, [PROGRAM], f"{to}/build.log", when_run=lambda folder: take_program(folder, to))
-    say(f"proving {len(proving.all)} crates and building the program: half an hour on four quick cores, an hour on slow ones")
+    say(f"proving {len(proving.all)} crates and building the program: half an hour on four slow cores, less on quick ones")
     say("README.md says how to have an unproved answer in two minutes")
     is_apart = keeps_proofs()
     if not is_apart:
         say("this kit keeps no proofs: if it is stopped, it begins anew")
     if not proving.run(is_apart) or not is_current(top):
-        say(f"the program could not be proved and built (log: crates/{PROGRAM}/out/build.log)")
+        for names in proving.failed:
+            say(f"not proved: {names}")
+        say(f"the program could not be proved and built: what rt said is in crates/{PROGRAM}/out/build.log")
         return 2
     say(f"proved and built in {minutes(proving.start)}")
     return 0

@@ -119,7 +119,8 @@ def workers():
 
 
 class Proving:
-    """Proves the crates of these names and those below them. `when_run` is called with the folder of each run that passed."""
+    """Proves the crates of these names and those below them. `when_run` is called with the folder of each run that passed. `failed` has the crates
+    of each run that failed."""
 
     def __init__(self, top, names, log, when_run=lambda folder: None):
         self.top, self.log, self.when_run, self.start = top, log, when_run, time.monotonic()
@@ -127,7 +128,7 @@ class Proving:
         self.all = from_the_ground(self.crates, names)
         self.chains = chains_above(top, self.crates, names)
         self.left, self.begun, self.proved = set(self.all), set(), set()
-        self.functions, self.jobs, self.has_failed, self.change = 0, 0, False, threading.Condition()
+        self.functions, self.jobs, self.failed, self.change = 0, 0, [], threading.Condition()
 
     def ready(self, names):
         """The crates that are not begun whose libraries are proved or have these names."""
@@ -148,7 +149,7 @@ class Proving:
     def take(self):
         """The crates to prove in the next run, how nice it is to the others, and how many jobs it has, or None where none is left."""
         with self.change:
-            while self.left and not self.has_failed:
+            while self.left and not self.failed:
                 if ready := self.ready([]):
                     running = self.begun - self.proved
                     name = max(ready, key=self.chains.get)
@@ -202,7 +203,7 @@ class Proving:
                 file.write(said)
             self.jobs -= jobs
             if status:
-                self.has_failed = True
+                self.failed.append(" ".join(names))
                 self.change.notify_all()
         # those that the run did not name
         for name in [] if status else names:
@@ -224,4 +225,4 @@ class Proving:
         self.work()
         for thread in beside:
             thread.join()
-        return not self.has_failed
+        return not self.failed
