@@ -3,7 +3,6 @@
 
 mod faults;
 mod files;
-mod lists;
 mod program;
 mod progress;
 mod status;

@@ -15,14 +15,13 @@ ghost use Rattle.lic_command.specs.Usage.{IsFault, IsShown};
 
 use crate::faults::Stop;
 use crate::files::{FileList, Search, Work, write_files};
-use crate::lists::load_lists;
 use crate::progress::Progress;
 use crate::status::{DONE, REFUSED, status_at_end, status_of, status_of_check};
 use clap::error::ErrorKind;
 use clap::{ArgMatches, Error};
 use lic_arguments::{ArgumentFault, CheckArguments, ScanArguments, TokensArguments, ask_of, parse};
 use lic_engine::check;
-use lic_load::{list_templates, load_all, tell};
+use lic_load::{list_templates, load_all, load_rules, load_words, tell};
 use lic_stream::{Sink, Source, put_all};
 use std::alloc::Global;
 use std::rt::Files;
@@ -46,22 +45,15 @@ fn scan<Rt: Files + AllocGlobal + Clone + Drop, R: Source, W: Sink, E: Sink>(
     ensures few { IfOk result (λ status. status ≤ 2) }
 {
     let arguments = ScanArguments::read(alloc, found)?;
-    let lists = load_lists(rt, alloc, arguments.rules, arguments.words)?;
+    let rules = load_rules(rt, alloc, arguments.rules)?;
+    let words = load_words(rt, alloc, arguments.words)?;
     let listing = list_templates(rt, alloc, arguments.folder)?;
-    let loaded = load_all(
-        rt,
-        alloc,
-        arguments.folder,
-        listing,
-        &lists.words,
-        &lists.rules,
-        err,
-    )?;
+    let loaded = load_all(rt, alloc, arguments.folder, listing, &words, &rules, err)?;
     let ask = ask_of(alloc, &arguments, &loaded.set)?;
     let search = Search {
         set: &loaded.set,
-        words: &lists.words,
-        rules: &lists.rules,
+        words: &words,
+        rules: &rules,
         ask: &ask,
     };
     let files = FileList {
@@ -87,18 +79,11 @@ fn check_templates<Rt: Files + AllocGlobal + Clone + Drop, W: Sink, E: Sink>(
     ensures few { IfOk result (λ status. status ≤ 2) }
 {
     let arguments = CheckArguments::read(found);
-    let lists = load_lists(rt, alloc, arguments.rules, arguments.words)?;
+    let rules = load_rules(rt, alloc, arguments.rules)?;
+    let words = load_words(rt, alloc, arguments.words)?;
     let listing = list_templates(rt, alloc, arguments.folder)?;
-    let loaded = load_all(
-        rt,
-        alloc,
-        arguments.folder,
-        listing,
-        &lists.words,
-        &lists.rules,
-        err,
-    )?;
-    let answer = check(alloc, &loaded.set, &lists.words, out, &lists.rules);
+    let loaded = load_all(rt, alloc, arguments.folder, listing, &words, &rules, err)?;
+    let answer = check(alloc, &loaded.set, &words, out, &rules);
     status_of_check(answer, loaded.is_refused)
 }
 
@@ -121,14 +106,15 @@ fn tokens<Rt: Files + AllocGlobal, R: Source, W: Sink, E: Sink>(
     ensures few { IfOk result (λ status. status ≤ 2) }
 {
     let arguments = TokensArguments::read(alloc, found)?;
-    let lists = load_lists(rt, alloc, arguments.rules, arguments.words)?;
+    let rules = load_rules(rt, alloc, arguments.rules)?;
+    let words = load_words(rt, alloc, arguments.words)?;
     let files = FileList {
         names: arguments.files.as_slice(),
         progress,
     };
     let work = Work::Tokens {
-        words: &lists.words,
-        rules: &lists.rules,
+        words: &words,
+        rules: &rules,
     };
     let written = write_files(rt, alloc, files, input, out, err, work)?;
     Ok(status_of(written, false))
