@@ -12,6 +12,9 @@ use thiserror::Error;
 /// How many bytes are asked for in one call.
 const CHUNK: usize = 16_384;
 
+/// How many are asked for after a call that read fewer than were asked for: mostly the end is near.
+const FEW: usize = 4_096;
+
 /// A read that failed, or memory that ran out.
 #[derive(Clone, Copy, Debug, PartialEq, Eq, Error)]
 pub enum ReadFault {
@@ -27,6 +30,14 @@ impl From<AllocError> for ReadFault {
     fn from(_error: AllocError) -> ReadFault {
         ReadFault::Memory
     }
+}
+
+/// How many bytes are asked for after `len` bytes. All that are asked for are filled with zeros first.
+fn asked_after(len: usize) -> usize
+    ensures some { 0 < result }
+    ensures most { result ≤ CHUNK }
+{
+    if len % CHUNK == 0 { CHUNK } else { FEW }
 }
 
 /// Adds what one call reads, at most `most` bytes, and gives how many bytes these are: 0 only at the end, or where none are asked for.
@@ -49,7 +60,7 @@ pub fn pull_into<R: Source>(
     ensures memory { IsErrOf result ReadFault.Memory → R.failed input.new ≡ R.failed input.old }
 {
     let len = bytes.len();
-    bytes.resize(len + most.min(CHUNK), 0)?;
+    bytes.resize(len + most.min(asked_after(len)), 0)?;
     match input.pull(&mut bytes[len..]) {
         Ok(n) => {
             bytes.truncate(len + n);
