@@ -23,10 +23,10 @@ use lic_stream::{Sink, Source, WriteFailed, put_all, put_gathered};
 use std::alloc::Global;
 
 /// How many bytes of lines of tokens are gathered before they are written.
-const ENOUGH: usize = 32_768;
+const ENOUGH: usize = 16_384;
 
 /// Memory for them, and for the line after which they are enough: mostly the list never grows.
-const GATHERED: usize = 41_984;
+const GATHERED: usize = 25_600;
 
 /// Writes the lines of all matches that are asked for, and says whether there was one.
 fn report_all<W: Sink>(
