@@ -35,6 +35,20 @@ fn read_rules(alloc: Global, bytes: &[u8]) -> Result<Rules, FileFault<RulesFault
     }
 }
 
+/// The rules in the file of this name.
+///
+/// It is a function of its own on the stack, as the profile needs a part of its places alone.
+#[inline(never)]
+fn rules_of_file<Rt: Files>(rt: &Rt, alloc: Global, path: &str) -> Result<Rules, LoadFault>
+    ensures rules { IfOk result (λ rules. AreRulesOfFile (rules_of rules)) }
+    ensures refused { IfErr result IsFaultOfRules }
+{
+    let Some(bytes) = read_bytes(rt, alloc, path)? else {
+        return Err(LoadFault::Rules(FileFault::Unreadable));
+    };
+    read_rules(alloc, bytes.as_slice()).map_err(LoadFault::Rules)
+}
+
 /// The rules in a file, or those of this project's profile where no file is given. `-` is a file of that name.
 #[inline(never)]
 pub fn load_rules<Rt: Files>(rt: &Rt, alloc: Global, path: Option<&str>) -> Result<Rules, LoadFault>
@@ -43,11 +57,8 @@ pub fn load_rules<Rt: Files>(rt: &Rt, alloc: Global, path: Option<&str>) -> Resu
     // A file that is given is at fault, and no other thing.
     ensures refused { IfErr result (λ fault. IsSome path.entry × IsFaultOfRules fault) }
 {
-    let Some(path) = path else {
-        return Ok(Rules::profile(alloc));
-    };
-    let Some(bytes) = read_bytes(rt, alloc, path)? else {
-        return Err(LoadFault::Rules(FileFault::Unreadable));
-    };
-    read_rules(alloc, bytes.as_slice()).map_err(LoadFault::Rules)
+    match path {
+        Some(path) => rules_of_file(rt, alloc, path),
+        None => Ok(Rules::profile(alloc)),
+    }
 }

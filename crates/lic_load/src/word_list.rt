@@ -33,6 +33,18 @@ fn read_words(alloc: Global, bytes: &[u8]) -> Result<Words, FileFault<WordsFault
     }
 }
 
+/// The list in the file of this name.
+#[inline(never)]
+fn words_of_file<Rt: Files>(rt: &Rt, alloc: Global, path: &str) -> Result<Words, LoadFault>
+    ensures list { IfOk result IsListOfFile }
+    ensures refused { IfErr result IsFaultOfList }
+{
+    let Some(bytes) = read_bytes(rt, alloc, path)? else {
+        return Err(LoadFault::Words(FileFault::Unreadable));
+    };
+    read_words(alloc, bytes.as_slice()).map_err(LoadFault::Words)
+}
+
 /// The list in a file, or the empty one where no file is given. `-` is a file of that name.
 #[inline(never)]
 pub fn load_words<Rt: Files>(rt: &Rt, alloc: Global, path: Option<&str>) -> Result<Words, LoadFault>
@@ -41,11 +53,8 @@ pub fn load_words<Rt: Files>(rt: &Rt, alloc: Global, path: Option<&str>) -> Resu
     // A file that is given is at fault, and no other thing.
     ensures refused { IfErr result (λ fault. IsSome path.entry × IsFaultOfList fault) }
 {
-    let Some(path) = path else {
-        return Ok(Words::none(alloc));
-    };
-    let Some(bytes) = read_bytes(rt, alloc, path)? else {
-        return Err(LoadFault::Words(FileFault::Unreadable));
-    };
-    read_words(alloc, bytes.as_slice()).map_err(LoadFault::Words)
+    match path {
+        Some(path) => words_of_file(rt, alloc, path),
+        None => Ok(Words::none(alloc)),
+    }
 }
