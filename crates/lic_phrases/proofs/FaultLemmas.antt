@@ -1,5 +1,5 @@
 -- The first fault of a list, phrase by phrase and line by line.
-use Rattle.std.proofs.Common.{◌≡◌, ◌⊎◌, inl, inr, ℕ, ◌+◌, ◌<◌, ◌≤◌, List, [], ◌++◌, length, get_or, drop, map, Option, Some, None, refl, sym, ap, ◌∙◌, drop-cons, add-one}
+use Rattle.std.proofs.Common.{◌≡◌, ◌⊎◌, inl, inr, ℕ, ◌+◌, ◌<◌, List, [], ◌++◌, length, get_or, drop, map, Option, Some, None, refl, sym, ap, ◌∙◌, drop-cons, add-one}
 use Rattle.lic_phrases.specs.declared.fault.WordsCause.{WordsCause}
 use Rattle.lic_phrases.specs.declared.fault.WordsCause.TheVariants.{EmptyPhrase, TooManyPhrases, PhraseTooLong, OutOfMemory}
 use Rattle.lic_phrases.specs.declared.fault.WordsFault.{WordsFault}

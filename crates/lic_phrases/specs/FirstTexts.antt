@@ -2,10 +2,10 @@
 use Rattle.std.specs.Prelude.{◌≡◌, ◌≢◌, ◌<◌, ℕ, suc, min, Bool, true, false, List, [], ◌∷◌, length, reverse, slice_index, codes, bytes_eq}
 use Rattle.lic_trim.specs.PieceLengths.{has_bit}
 
--- Whether the table has a bit for the first byte of a text and its length, where the last bit is for 63 bytes and more. It says yes to no text at all.
+-- Whether the table has a bit for the first byte of a text and its length, where the last bit is for 31 bytes and more. It says yes to no text at all.
 abbrev pub may_have : List ℕ → List ℕ → Bool
 may_have lengths [] = true
-may_have lengths (first ∷ rest) = has_bit (slice_index lengths first) (min (suc (length rest)) 63)
+may_have lengths (first ∷ rest) = has_bit (slice_index lengths first) (min (suc (length rest)) 31)
 
 -- each text with a bound has its bit
 abbrev pub HasAll : List ℕ → (List ℕ → ℕ) → Type 0

@@ -10,11 +10,11 @@ use std::alloc::{AllocError, Global};
 /// How many bytes there are.
 const BYTES: usize = 256;
 
-/// The bit of a mask that is for texts of 63 bytes and more.
-const LONG: usize = 63;
+/// The bit of a mask that is for texts of 31 bytes and more.
+const LONG: usize = 31;
 
 /// The bits for texts of two bytes and more.
-const TWO_AND_MORE: u64 = u64::MAX - 3;
+const TWO_AND_MORE: u32 = u32::MAX - 3;
 
 /// For each text that begins a phrase, how many tokens such a phrase has at most.
 #[derive(Drop)]
@@ -22,9 +22,9 @@ pub(crate) struct Firsts {
     most: IndexMap<Vec<u8>, usize>,
     /// A prefilter: for each first byte, how long the texts are that begin with it, a bit for each length. It has those of texts
     /// that begin a phrase, and those that are not plain.
-    lengths: [u64; BYTES],
+    lengths: [u32; BYTES],
     /// The same for each last byte, with texts that begin a phrase alone.
-    ends: [u64; BYTES],
+    ends: [u32; BYTES],
     ghost all: { HasAll lengths (λ text. unwrap_or (get_by (λ k. bytes_eq text k.items) most) 0) },
     ghost others: { HasOthers lengths },
     ghost all_ends: { HasAllEnds ends (λ text. unwrap_or (get_by (λ k. bytes_eq text k.items) most) 0) },
@@ -32,7 +32,7 @@ pub(crate) struct Firsts {
 
 /// Whether there is a bit for the first byte of this text and its length.
 #[inline(always)]
-fn may_have(lengths: &[u64; BYTES], text: &[u8]) -> bool
+fn may_have(lengths: &[u32; BYTES], text: &[u8]) -> bool
     requires { 0 < length text.now }
     ensures { result ≡ may_have lengths.now text.now }
 {
@@ -40,7 +40,7 @@ fn may_have(lengths: &[u64; BYTES], text: &[u8]) -> bool
 }
 
 /// Adds a bit for the first byte of this text and its length.
-fn add(lengths: &mut [u64; BYTES], text: &[u8])
+fn add(lengths: &mut [u32; BYTES], text: &[u8])
     ensures added { may_have lengths.new text.now ≡ true }
     ensures grows { (t : List ℕ) → may_have lengths.old t ≡ true → may_have lengths.new t ≡ true }
 {
@@ -52,15 +52,15 @@ fn add(lengths: &mut [u64; BYTES], text: &[u8])
 
 /// Whether there is a bit for texts of `len` bytes that begin with this byte.
 #[inline(always)]
-fn has(table: &[u64; BYTES], byte: u8, len: usize) -> bool
-    ensures { result ≡ has_bit (slice_index table.now byte) (min len 63) }
+fn has(table: &[u32; BYTES], byte: u8, len: usize) -> bool
+    ensures { result ≡ has_bit (slice_index table.now byte) (min len 31) }
 {
     (table[byte as usize] >> len.min(LONG)) & 1 == 1
 }
 
 /// Whether there is a bit for the last byte of this text and its length.
 #[inline(always)]
-fn may_end(ends: &[u64; BYTES], text: &[u8]) -> bool
+fn may_end(ends: &[u32; BYTES], text: &[u8]) -> bool
     requires { 0 < length text.now }
     ensures { result ≡ may_have ends.now (reverse text.now) }
 {
@@ -68,7 +68,7 @@ fn may_end(ends: &[u64; BYTES], text: &[u8]) -> bool
 }
 
 /// Adds a bit for the last byte of this text and its length.
-fn add_end(ends: &mut [u64; BYTES], text: &[u8])
+fn add_end(ends: &mut [u32; BYTES], text: &[u8])
     ensures added { may_have ends.new (reverse text.now) ≡ true }
     ensures grows { (t : List ℕ) → may_have ends.old t ≡ true → may_have ends.new t ≡ true }
 {
@@ -79,7 +79,7 @@ fn add_end(ends: &mut [u64; BYTES], text: &[u8])
 }
 
 /// Adds all bits for a first byte but that of this byte alone.
-fn add_longer(lengths: &mut [u64; BYTES], first: u8)
+fn add_longer(lengths: &mut [u32; BYTES], first: u8)
     ensures added { (next : ℕ) (rest : List ℕ) → may_have lengths.new (first ∷ next ∷ rest) ≡ true }
     ensures grows { (t : List ℕ) → may_have lengths.old t ≡ true → may_have lengths.new t ≡ true }
 {
@@ -87,7 +87,7 @@ fn add_longer(lengths: &mut [u64; BYTES], first: u8)
 }
 
 /// The prefilter where no text begins a phrase.
-fn no_lengths() -> [u64; BYTES]
+fn no_lengths() -> [u32; BYTES]
     ensures { HasOthers result }
 {
     let mut lengths = [0; BYTES];
