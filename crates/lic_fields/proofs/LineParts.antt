@@ -60,19 +60,25 @@ lanes_written bytes from place n fits long =
     ap (take (place + n)) (put_chunk_is place bytes (take n from) (omega (arith, part, fits)))
     ∙ both_taken (take place bytes) (take n from) _ (place + n) (omega (arith, part, start))
 
+-- the bytes of a copy that count
+pub front_copied : (old new from : List ℕ) (place n len : ℕ) → place ≤ length old → len ≤ n
+    → take (place + n) new ≡ take place old ++ take n from → take (place + len) new ≡ take place old ++ take len from
+front_copied old new from place n len within short copied =
+    let start : length (take place old) ≡ place = length-take-le place old within in
+    sym (take-take (place + len) (place + n) new (omega (arith, short)))
+    ∙ (ap (take (place + len)) copied
+    ∙ (ap (λ m. take (m + len) (take place old ++ take n from)) (sym start)
+    ∙ (take-append-add (take place old) (take n from) len ∙ ap (λ l. take place old ++ l) (take-take len n from short))))
+
 -- two parts of a block, one written after the other, and the bytes of it that count
 pub parts_front : (old mid new block : List ℕ) (place a b len : ℕ) → place ≤ length old → a + b ≤ length block → len ≤ a + b
     → take (place + a) mid ≡ take place old ++ take a block
     → take (place + a + b) new ≡ take (place + a) mid ++ take b (take (length block - a) (drop a block))
     → take (place + len) new ≡ take place old ++ take len block
 parts_front old mid new block place a b len within long short one two =
-    let start : length (take place old) ≡ place = length-take-le place old within in
     let after : take b (take (length block - a) (drop a block)) ≡ take b (drop a block) =
     take-take b (length block - a) (drop a block) (omega (arith, long)) in
     let whole : take (place + a + b) new ≡ take place old ++ take (a + b) block =
     two ∙ (ap₂ (λ x y. x ++ y) one after ∙ (append_assoc (take place old) (take a block) (take b (drop a block))
     ∙ ap (λ l. take place old ++ l) (sym (take-add a b block)))) in
-    sym (take-take (place + len) (place + a + b) new (omega (arith, short)))
-    ∙ (ap (take (place + len)) whole
-    ∙ (ap (λ n. take (n + len) (take place old ++ take (a + b) block)) (sym start)
-    ∙ (take-append-add (take place old) (take (a + b) block) len ∙ ap (λ l. take place old ++ l) (take-take len (a + b) block short))))
+    front_copied old new block place (a + b) len within short (ap (λ n. take n new) (omega arith) ∙ whole)

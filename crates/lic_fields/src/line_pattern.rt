@@ -10,10 +10,14 @@ use std::simd::prelude::*;
 /// How many bytes of a text are copied at once: most texts have fewer.
 const COPIED: usize = 16;
 
-/// How many bytes of what a line begins with are copied at once, if they are enough.
+/// How many bytes of what a line begins with are copied at once: the least of these numbers that is enough.
+const SHORTEST: usize = 32;
+
+const SHORTER: usize = 48;
+
 const SHORT: usize = 80;
 
-/// How many bytes are copied at once otherwise: most lines have fewer.
+/// The most of them: most lines begin with fewer.
 pub(crate) const LONG: usize = 128;
 
 /// How many bytes a line is written over: a copy, a text and the line end.
@@ -39,6 +43,17 @@ fn copy_64(bytes: &mut [u8], place: usize, from: &[u8])
     u8x64::from_slice(from).copy_to_slice(&mut bytes[place..]);
 }
 
+/// Copies 32 bytes to a place.
+#[inline(always)]
+fn copy_32(bytes: &mut [u8], place: usize, from: &[u8])
+    requires fits { place + 32 ≤ length bytes.old }
+    requires long { 32 ≤ length from.now }
+    ensures copied { take (place + 32) bytes.new ≡ take place bytes.old ++ take 32 from.now }
+    ensures len { length bytes.new ≡ length bytes.old }
+{
+    u8x32::from_slice(from).copy_to_slice(&mut bytes[place..]);
+}
+
 /// Copies 16 bytes to a place.
 #[inline(always)]
 fn copy_16(bytes: &mut [u8], place: usize, from: &[u8])
@@ -50,6 +65,23 @@ fn copy_16(bytes: &mut [u8], place: usize, from: &[u8])
     u8x16::from_slice(from).copy_to_slice(&mut bytes[place..]);
 }
 
+/// Writes the first `len` of these bytes, at most 48, at a place, and some after them.
+#[inline(always)]
+fn write_short_block(bytes: &mut [u8], place: usize, block: &[u8], len: usize)
+    requires short { len ≤ 48 }
+    requires long { 128 ≤ length block.now }
+    requires fits { place + 128 ≤ length bytes.old }
+    ensures written { take (place + len) bytes.new ≡ take place bytes.old ++ take len block.now }
+    ensures len { length bytes.new ≡ length bytes.old }
+{
+    if len <= SHORTEST {
+        copy_32(bytes, place, block);
+        return;
+    }
+    copy_32(bytes, place, block);
+    copy_16(bytes, place + 32, &block[32..]);
+}
+
 /// Writes the first `len` of these bytes at a place, and some after them, so that the copy is of a fixed length.
 #[inline(always)]
 fn write_block(bytes: &mut [u8], place: usize, block: &[u8], len: usize)
@@ -59,6 +91,10 @@ fn write_block(bytes: &mut [u8], place: usize, block: &[u8], len: usize)
     ensures written { take (place + len) bytes.new ≡ take place bytes.old ++ take len block.now }
     ensures len { length bytes.new ≡ length bytes.old }
 {
+    if len <= SHORTER {
+        write_short_block(bytes, place, block, len);
+        return;
+    }
     if len <= SHORT {
         copy_64(bytes, place, block);
         copy_16(bytes, place + 64, &block[64..]);
