@@ -20,7 +20,7 @@ END_OF_TERMS = re.compile(r"^ *END OF TERMS AND CONDITIONS *$", re.MULTILINE)
 ADDRESS = re.compile(r"(?:59 Temple Place|51 Franklin St|675 Mass Ave|31 Milk St)[^\n]*(?:\n[^\n]*(?:USA|02110|02111|02139))?|<https?://(?:www\.)?fsf\.org/>|<https?://www\.gnu\.org/licenses/>")
 
 # what would be a list item if a line began with it
-ITEM = re.compile(r"(?<= )(?:\(?(?:[0-9]{1,3}|[A-Za-z]|[ivxIVX]{2,5})[.)]|[0-9]+\.[0-9]+\.|[-*]) ")
+ITEM = re.compile(r"(?<= )(?:[0-9]{1,3}(?:\.[0-9]{1,3})*[.):]|(?:[A-Za-z]|[ivxIVX]{1,5})[.)]|\((?:[0-9]{1,3}|[A-Za-z]|[ivxIVX]{1,5})\)|[-+*]) ")
 
 
 def optional(text):
