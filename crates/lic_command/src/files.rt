@@ -94,6 +94,7 @@ fn write_lines<R: Source, W: Sink>(
     ensures writes { CountsWrites result (W.failed out.old) (W.failed out.new) }
 {
     match work {
+        Work::Tokens { words, rules } => run_tokens(memory, name, input, out, words, rules),
         Work::Scan(search) => run(
             memory,
             name,
@@ -104,7 +105,6 @@ fn write_lines<R: Source, W: Sink>(
             search.rules,
             search.ask,
         ),
-        Work::Tokens { words, rules } => run_tokens(memory, name, input, out, words, rules),
     }
 }
 

@@ -2,6 +2,8 @@
 //!
 //! Each command is a function of its own on the stack (`inline(never)`): line rules and a word list have kilobytes, and each call that is
 //! inlined would have places of its own for them.
+//!
+//! `tokens`, which needs the fewest functions, is named first: the program has them in this order, and so fewer of its pages are read in.
 
 ghost use Rattle.std.specs.Prelude.{◌≡◌, ◌≢◌, ◌≤◌, ℕ, List, Ok, Err, IfOk, map};
 ghost use Rattle.clap.specs.Matches.{found_of};
@@ -185,12 +187,12 @@ fn try_command<Rt: Files + AllocGlobal + Clone + Drop, R: Source, W: Sink, E: Si
 {
     match parse(alloc, args) {
         Ok(matches) => {
-            if let Some(found) = matches.subcommand_matches("scan") {
-                scan(rt, alloc, found, input, out, err, progress)
+            if let Some(found) = matches.subcommand_matches("tokens") {
+                tokens(rt, alloc, found, input, out, err, progress)
             } else if let Some(found) = matches.subcommand_matches("check") {
                 check_templates(rt, alloc, found, out, err)
-            } else if let Some(found) = matches.subcommand_matches("tokens") {
-                tokens(rt, alloc, found, input, out, err, progress)
+            } else if let Some(found) = matches.subcommand_matches("scan") {
+                scan(rt, alloc, found, input, out, err, progress)
             } else {
                 Err(Stop::Arguments(ArgumentFault::NoCommand))
             }
