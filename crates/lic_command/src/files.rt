@@ -128,17 +128,17 @@ fn write_file<Rt: Files, R: Source, W: Sink>(
     ensures stopped { OnErr result ((input.new ≡ input.old) × (out.new ≡ out.old)) }
     ensures memory { IfErr result (λ stop. stop ≡ Stop.Memory) }
 {
-    if name == "-" {
-        return Ok(write_lines(memory, name, input, out, work));
+    if name != "-" {
+        return match File::open(rt, name) {
+            Ok(file) => {
+                let mut source = Counted::new(file);
+                Ok(write_lines(memory, name, &mut source, out, work))
+            }
+            Err(e) if wants_memory(&e) => Err(Stop::Memory),
+            Err(_) => Ok(Err(RunFault::Read)),
+        };
     }
-    match File::open(rt, name) {
-        Ok(file) => {
-            let mut source = Counted::new(file);
-            Ok(write_lines(memory, name, &mut source, out, work))
-        }
-        Err(e) if wants_memory(&e) => Err(Stop::Memory),
-        Err(_) => Ok(Err(RunFault::Read)),
-    }
+    Ok(write_lines(memory, name, input, out, work))
 }
 
 /// The line about a file that is refused.
