@@ -1,15 +1,15 @@
 -- What the prefilter of first texts says no to has no bound.
-use Rattle.std.proofs.Common.{◌≡◌, ◌≢◌, ◌∙◌, ◌+◌, ◌-◌, ◌<◌, ◌*◌, ◌/◌, ◌%◌, ◌^◌, ℕ, zero, suc, min, List, [], ◌∷◌, length, get_or, w32, true, false, ◌||◌, ◌==◌, inl, inr, refl, sym, ap, ap₂, subst, arith, reverse, true≢false}
+use Rattle.std.proofs.Common.{◌≡◌, ◌≢◌, ◌∙◌, ◌-◌, ◌<◌, ◌*◌, ◌/◌, ◌%◌, ◌^◌, ℕ, zero, suc, min, List, [], ◌∷◌, length, get_or, w32, true, false, ◌||◌, ◌==◌, inl, inr, refl, sym, ap, subst, arith, true≢false}
 use Rattle.std.proofs.lemmas.Bool.{cases_Bool, cases_eq, cond-false, eq-eqb, eqb-true, or_left, or_right}
 use Rattle.std.proofs.Math.Bool.{or-false}
-use Rattle.std.proofs.lemmas.List.{get_or-reverse, get_or-set_same, get_or-set_other, length-reverse}
+use Rattle.std.proofs.lemmas.List.{get_or-set_same, get_or-set_other}
 use Rattle.std.proofs.lemmas.Nat.Bits.{bit_at-suc, bit_at_ones, bit_at_set_other, bit_at_set_same}
 use Rattle.std.specs.Prelude.{slice_set, bit_or}
 use Rattle.lic_trim.specs.PieceLengths.{has_bit}
 use Rattle.lic_trim.proofs.PieceLengths.{has_bit_or}
 use Rattle.std.proofs.lemmas.Slice.Eq.{bytes_eq-Decides}
 use Rattle.std.specs.Prelude.{bytes_eq, codes}
-use Rattle.lic_phrases.specs.FirstTexts.{may_have, HasAll, HasAllEnds, HasOthers, IsPlain}
+use Rattle.lic_phrases.specs.FirstTexts.{by_pair, may_have, pair_of, HasAll, HasAllByPair, HasOthers, HasSigns, IsNoSign, IsPlain}
 use Rattle.lic_phrases.specs.PhraseLists.{IsRaised}
 
 -- the table with one more bit
@@ -69,36 +69,55 @@ HasAll-raised old new first count most_from raised all r added grows text none =
   | inr other ↦ r.at_text text ∙ cond-false (bytes_eq first text) _ _ other ∙ all text (not_before old new grows text none)
 ]
 
--- ---- the table of ends
+-- ---- the table by first and last bytes
 
--- the first of a reversed text is its last
-pub last_first : (text : List ℕ) (n : ℕ) → n + 1 ≡ length text → get_or (reverse text) 0 0 ≡ get_or text n 0
-last_first text n count = get_or-reverse text 0 0 (omega (arith, count)) ∙ ap (λ k. get_or text k 0) (let same : length text - 1 - 0 ≡ n = omega (arith, count) in same)
+pub by_pair-long : (text : List ℕ) → length (by_pair text) ≡ length text
+by_pair-long [] = refl
+by_pair-long (first ∷ rest) = refl
 
-pub may_end-is : (ends text : List ℕ) (n : ℕ) → n + 1 ≡ length text
-    → has_bit (get_or ends (get_or text n 0) 0) (min (length text) 31) ≡ may_have ends (reverse text)
-may_end-is ends text n count = at (reverse text) (length-reverse text) (last_first text n count)
-  where
-    at : (way : List ℕ) → length way ≡ length text → get_or way 0 0 ≡ get_or text n 0
-        → has_bit (get_or ends (get_or text n 0) 0) (min (length text) 31) ≡ may_have ends way
-    at [] long first = absurd (omega (arith, count))
-    at (b ∷ way) long first = ap₂ (λ k l. has_bit (get_or ends k 0) (min l 31)) (sym first) (sym long)
+by_pair-first : (text : List ℕ) → 0 < length text → get_or (by_pair text) 0 0 ≡ pair_of text
+by_pair-first [] some = absurd (omega arith)
+by_pair-first (first ∷ rest) some = refl
 
-pub may_end-added : (ends text : List ℕ) (k n : ℕ) → k + 1 ≡ length text → get_or text k 0 < length ends → n ≡ min (length text) 31
-    → may_have (with_bit ends (get_or text k 0) n) (reverse text) ≡ true
-may_end-added ends text k n count within is =
-    let last = last_first text k count in
-    subst (λ b. may_have (with_bit ends b n) (reverse text) ≡ true) last
-    (may_have-added ends (reverse text) n (omega (arith, count, length-reverse text)) (subst (λ b. b < length ends) (sym last) within)
-    (is ∙ ap (λ l. min l 31) (sym (length-reverse text))))
+pub may_have_pair-is : (pairs text : List ℕ) → 0 < length text
+    → has_bit (get_or pairs (pair_of text) 0) (min (length text) 31) ≡ may_have pairs (by_pair text)
+may_have_pair-is pairs [] some = absurd (omega arith)
+may_have_pair-is pairs (first ∷ rest) some = refl
 
-pub HasAllEnds-raised : (old new first : List ℕ) (count : ℕ) (most_from raised : List ℕ → ℕ) → HasAllEnds old most_from
-    → IsRaised first count most_from raised → may_have new (reverse first) ≡ true
-    → ((t : List ℕ) → may_have old t ≡ true → may_have new t ≡ true) → HasAllEnds new raised
-HasAllEnds-raised old new first count most_from raised all r added grows text none = elim (cases_Bool (bytes_eq first text)) [
-  | inl same ↦ absurd (true≢false (sym added ∙ ap (λ t. may_have new (reverse t)) ((bytes_eq-Decides first text).0 same) ∙ none))
-  | inr other ↦ r.at_text text ∙ cond-false (bytes_eq first text) _ _ other ∙ all text (not_before old new grows (reverse text) none)
+pub may_have_pair-added : (pairs text : List ℕ) (row n : ℕ) → 0 < length text → row ≡ pair_of text → row < length pairs → n ≡ min (length text) 31
+    → may_have (with_bit pairs row n) (by_pair text) ≡ true
+may_have_pair-added pairs text row n some is_row within is =
+    let row_is = by_pair-first text some ∙ sym is_row in
+    subst (λ r. may_have (with_bit pairs r n) (by_pair text) ≡ true) row_is
+    (may_have-added pairs (by_pair text) n (omega (arith, some, by_pair-long text)) (subst (λ r. r < length pairs) (sym row_is) within)
+    (is ∙ ap (λ l. min l 31) (sym (by_pair-long text))))
+
+pub HasAllByPair-raised : (old new first : List ℕ) (count : ℕ) (most_from raised : List ℕ → ℕ) → HasAllByPair old most_from
+    → IsRaised first count most_from raised → may_have new (by_pair first) ≡ true
+    → ((t : List ℕ) → may_have old t ≡ true → may_have new t ≡ true) → HasAllByPair new raised
+HasAllByPair-raised old new first count most_from raised all r added grows text none = elim (cases_Bool (bytes_eq first text)) [
+  | inl same ↦ absurd (true≢false (sym added ∙ ap (λ t. may_have new (by_pair t)) ((bytes_eq-Decides first text).0 same) ∙ none))
+  | inr other ↦ r.at_text text ∙ cond-false (bytes_eq first text) _ _ other ∙ all text (not_before old new grows (by_pair text) none)
 ]
+
+pub HasSigns-grown : (old new : List ℕ) → ((t : List ℕ) → may_have old t ≡ true → may_have new t ≡ true) → HasSigns old → HasSigns new
+HasSigns-grown old new grows signs = record {
+  sign = grows (by_pair (codes "copyright")) signs.sign;
+  address = grows (by_pair (codes "https")) signs.address;
+}
+
+other_pair : (pairs had text : List ℕ) → may_have pairs (by_pair had) ≡ true → may_have pairs (by_pair text) ≡ false → bytes_eq had text ≡ false
+other_pair pairs had text there none = elim (cases_Bool (bytes_eq had text)) [
+  | inl same ↦ absurd (true≢false (sym there ∙ ap (λ t. may_have pairs (by_pair t)) ((bytes_eq-Decides had text).0 same) ∙ none))
+  | inr other ↦ other
+]
+
+-- a text that has no bit there is neither
+pub no_sign : (pairs text : List ℕ) → HasSigns pairs → may_have pairs (by_pair text) ≡ false → IsNoSign text
+no_sign pairs text signs none = record {
+  sign = other_pair pairs (codes "copyright") text signs.sign none;
+  address = other_pair pairs (codes "https") text signs.address none;
+}
 
 -- ---- texts that are not plain
 

@@ -61,7 +61,7 @@ fn key_of(alloc: Global, texts: &[String]) -> Result<Vec<u8>, AllocError>
 
 impl Phrases {
     ghost use Rattle.std.specs.Prelude.{IsTrue};
-    ghost use Rattle.lic_phrases.specs.FirstTexts.{IsPlain};
+    ghost use Rattle.lic_phrases.specs.FirstTexts.{IsNoSign, IsPlain};
 
     /// A list without phrases.
     pub fn new(alloc: Global) -> Phrases
@@ -147,6 +147,18 @@ impl Phrases {
         ensures some { HaveTokens self.now.phrases }
     {
         self.most_from.is_plain(text)
+    }
+
+    /// Whether a look into another table says that this text is neither `copyright` nor `https` and begins no phrase. It does so of
+    /// nearly all texts of which this is true.
+    #[inline(always)]
+    pub(crate) fn begins_none(&self, text: &[u8]) -> bool
+        requires { 0 < length text.now }
+        ensures no_sign { IsTrue result → IsNoSign text.now }
+        ensures none { IsTrue result → longest_from self.now.phrases text.now ≡ 0 }
+        ensures some { HaveTokens self.now.phrases }
+    {
+        self.most_from.begins_none(text)
     }
 
     /// The class of the phrase with this key.

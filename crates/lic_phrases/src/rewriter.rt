@@ -31,7 +31,7 @@ pub struct Rewriter {
     sign: Option<FirstToken>,
     /// Tokens of which the first is `https`, up to the three that decide it.
     address: VecDeque<FirstToken>,
-    /// Tokens that may begin a longer phrase.
+    /// Tokens of which the first may begin a longer phrase.
     waiting: VecDeque<FirstToken>,
     /// A buffer for keys of phrases.
     key: Vec<u8>,
@@ -125,6 +125,16 @@ impl Rewriter {
         ensures left { IsTrue result → IsLeft phrases.now.phrases text.now }
     {
         phrases.is_plain(text)
+    }
+
+    /// Whether a token of this text is settled at once and as it is where none is kept back, by a look into another table, which says
+    /// yes to nearly all texts of which this is true.
+    #[inline(always)]
+    pub fn leaves_by_pair(phrases: &Phrases, text: &[u8]) -> bool
+        requires { 0 < length text.now }
+        ensures { IsTrue result → IsLeft phrases.now.phrases text.now }
+    {
+        phrases.begins_none(text)
     }
 
     /// Whether a token of this text that is taken next is settled at once and as it is: none is kept back, and it is left as it

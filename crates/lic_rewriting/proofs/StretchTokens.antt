@@ -1,11 +1,11 @@
 -- Tokens that are given by the places where they begin and end.
-use Rattle.std.proofs.Common.{◌≡◌, ℕ, zero, suc, ◌+◌, ◌-◌, ◌<◌, ◌≤◌, ◌==◌, Bool, true, false, not, ◌&&◌, ◌||◌, List, [], ◌∷◌, length, take, drop, get_or, refl, sym, ap, ap₂, ◌∙◌, subst, arith, add-one, drop-cons, length-drop, true≢false}
+use Rattle.std.proofs.Common.{◌≡◌, ℕ, zero, suc, ◌+◌, ◌-◌, ◌<◌, ◌≤◌, ◌==◌, Bool, true, false, not, ◌&&◌, ◌||◌, List, [], ◌∷◌, length, take, drop, get_or, inl, inr, refl, sym, ap, ap₂, ◌∙◌, subst, arith, add-one, drop-cons, length-drop, true≢false, ◌≢◌}
 use Rattle.std.specs.Char.{encode_utf8}
 use Rattle.std.specs.List.{AllByRecursion}
 use Rattle.std.specs.Str.{chars}
 use Rattle.std.specs.Prelude.{bytes_eq, codes, if◌then◌else◌, nat_lt, slice_range}
 use Rattle.std.proofs.lemmas.List.{get_or-drop}
-use Rattle.std.proofs.lemmas.Bool.{cond-true, cond-false, ne_eqb}
+use Rattle.std.proofs.lemmas.Bool.{cases_lt, cond-true, cond-false, ne_eqb}
 use Rattle.lic_kind.specs.declared.Kind.TheVariants.{Mark, Word}
 use Rattle.lic_kind.specs.Kinds.{kind_of}
 use Rattle.lic_columns.specs.Marks.{is_joining}
@@ -14,7 +14,7 @@ use Rattle.lic_columns.specs.SpanTokens.{span_tokens, spans_by, token_text}
 use Rattle.lic_lines.specs.Tokens.{Token, is_text, is_sign_in_parentheses, sign_from, as_sign, single_signs}
 use Rattle.lic_phrases.specs.FirstTexts.{IsPlain}
 use Rattle.lic_trim.proofs.TextLemmas.{bytes_eq-other}
-use Rattle.lic_rewriting.specs.Stretches.{AreFrom, begins_sign}
+use Rattle.lic_rewriting.specs.Stretches.{AreFrom, begins_sign, may_begin_sign}
 
 -- ---- one of the tokens
 
@@ -189,13 +189,6 @@ no_parenthesis t (b ∷ c ∷ ts) none = ap (λ v. v && is_text (codes "c") b &&
 pub next_token : (tokens : List Token) (i : ℕ) (d : Token) → i < length tokens → drop i tokens ≡ get_or tokens i d ∷ drop (i + 1) tokens
 next_token tokens i d lt = rw (add-one, drop-cons tokens i d) refl
 
--- tokens of which the first has a plain text begin no sign
-pub no_sign_if_plain : (tokens : List Token) (i : ℕ) (d : Token) (text : List ℕ) → i < length tokens → IsPlain text → text ≡ (get_or tokens i d).text
-    → begins_sign (drop i tokens) ≡ false
-no_sign_if_plain tokens i d text within plain is =
-    ap begins_sign (next_token tokens i d within)
-    ∙ no_parenthesis (get_or tokens i d) (drop (i + 1) tokens) (ap (bytes_eq (codes "(")) (sym is) ∙ plain.parenthesis)
-
 -- a token that begins no sign
 pub token_alone : (t : Token) (ts : List Token) → begins_sign (t ∷ ts) ≡ false → as_sign t ≡ t → single_signs (t ∷ ts) ≡ t ∷ single_signs ts
 token_alone t [] none same = ap (λ u. u ∷ []) same
@@ -228,6 +221,119 @@ few_tokens (a ∷ b ∷ c ∷ ts) few = absurd (omega arith)
 
 pub no_sign : (tokens : List Token) (i : ℕ) → length (drop i tokens) < 3 → begins_sign (drop i tokens) ≡ false
 no_sign tokens i few = few_tokens (drop i tokens) few
+
+-- ---- whether a sign may begin
+
+-- where the first is no `(`, it may not
+no_parenthesis_first : (t : Token) (ts : List Token) → is_text (codes "(") t ≡ false → may_begin_sign (t ∷ ts) ≡ false
+no_parenthesis_first t [] none = refl
+no_parenthesis_first t (b ∷ ts) none = ap (λ v. v && is_text (codes "c") b) none
+
+-- the next two tokens
+next_two : (tokens : List Token) (i : ℕ) (d : Token) → i + 1 < length tokens
+    → drop i tokens ≡ get_or tokens i d ∷ get_or tokens (i + 1) d ∷ drop (i + 2) tokens
+next_two tokens i d lt =
+    next_token tokens i d (omega arith)
+    ∙ ap (λ l. get_or tokens i d ∷ l) (next_token tokens (i + 1) d (omega arith)
+    ∙ ap (λ n. get_or tokens (i + 1) d ∷ drop n tokens) (let e : i + 1 + 1 ≡ i + 2 = omega arith in e))
+
+-- one token alone begins none
+pub none_after_last : (tokens : List Token) (i : ℕ) → length tokens ≤ i + 1 → may_begin_sign (drop i tokens) ≡ false
+none_after_last tokens i last = at (drop i tokens) (omega (arith, length-drop i tokens))
+  where
+    at : (ts : List Token) → length ts ≤ 1 → may_begin_sign ts ≡ false
+    at [] few = refl
+    at (a ∷ []) few = refl
+    at (a ∷ b ∷ ts) few = absurd (omega arith)
+
+-- nor does a token before one that is no `c`
+pub none_before : (tokens : List Token) (i : ℕ) (d : Token) → i + 1 < length tokens → is_text (codes "c") (get_or tokens (i + 1) d) ≡ false
+    → may_begin_sign (drop i tokens) ≡ false
+none_before tokens i d lt none =
+    ap may_begin_sign (next_two tokens i d lt)
+    ∙ ap (λ v. is_text (codes "(") (get_or tokens i d) && v) none
+    ∙ and-false (is_text (codes "(") (get_or tokens i d))
+  where
+    and-false : (b : Bool) → (b && false) ≡ false
+    and-false true = refl
+    and-false false = refl
+
+-- nor a token that is no `(`
+pub none_but_parenthesis : (tokens : List Token) (i : ℕ) (d : Token) → i < length tokens → is_text (codes "(") (get_or tokens i d) ≡ false
+    → may_begin_sign (drop i tokens) ≡ false
+none_but_parenthesis tokens i d lt none =
+    ap may_begin_sign (next_token tokens i d lt) ∙ no_parenthesis_first (get_or tokens i d) (drop (i + 1) tokens) none
+
+-- where none may begin, none begins
+none_begins : (a b : Token) (ts : List Token) → (is_text (codes "(") a && is_text (codes "c") b) ≡ false → begins_sign (a ∷ b ∷ ts) ≡ false
+none_begins a b [] none = refl
+none_begins a b (c ∷ ts) none = ap (λ v. v && not b.after_blank && is_text (codes ")") c && not c.after_blank) none
+
+-- where none may begin among the tokens from a number on, none begins there
+pub no_sign_there : (tokens rest : List Token) (i k : ℕ) (d : Token) → AreFrom tokens i rest → k < length rest → may_begin_sign (drop k rest) ≡ false
+    → begins_sign (drop (i + k) tokens) ≡ false
+no_sign_there tokens rest i k d from lt none = elim (cases_lt (i + k + 1) (length tokens)) [
+  | inl two ↦
+      let more : k + 1 < length rest = omega (arith, two, from.count) in
+      let second : i + (k + 1) ≡ i + k + 1 = omega arith in
+      ap begins_sign (next_two tokens (i + k) d two)
+      ∙ none_begins (get_or tokens (i + k) d) (get_or tokens (i + k + 1) d) (drop (i + k + 2) tokens)
+      (ap₂ (λ s t. bytes_eq (codes "(") s && bytes_eq (codes "c") t) (sym (from.texts k d lt))
+      (sym (from.texts (k + 1) d more ∙ ap (λ n. (get_or tokens n d).text) second))
+      ∙ sym (ap may_begin_sign (next_two rest k d more)) ∙ none)
+  | inr one ↦ no_sign tokens (i + k) (omega (arith, one, length-drop (i + k) tokens))
+]
+
+pub no_sign_here : (tokens : List Token) (i : ℕ) (d : Token) → i < length tokens → may_begin_sign (drop i tokens) ≡ false
+    → begins_sign (drop i tokens) ≡ false
+no_sign_here tokens i d lt none =
+    ap (λ n. begins_sign (drop n tokens)) (same i) ∙ no_sign_there tokens tokens 0 i d itself lt none
+  where
+    same : (k : ℕ) → k ≡ 0 + k
+    same k = omega arith
+
+    itself : AreFrom tokens 0 tokens
+    itself = record {
+      count = sym (same (length tokens));
+      texts = λ k e _. ap (λ n. (get_or tokens n e).text) (same k);
+      starts = λ k e _. ap (λ n. (get_or tokens n e).start) (same k);
+      ends = λ k e _. ap (λ n. (get_or tokens n e).end) (same k);
+    }
+
+-- a text that begins with another letter
+other_first : (letter : ℕ) (text : List ℕ) → get_or text 0 0 ≢ letter → bytes_eq (letter ∷ []) text ≡ false
+other_first letter text other = sym (bytes_eq-other (letter ∷ []) text (λ same. other (ap (λ l. get_or l 0 0) (sym same))))
+
+-- a token's text begins with the first of its letters
+token_first : (letters : List ℕ) → get_or (token_text letters) 0 0 ≡ get_or letters 0 0
+token_first [] = refl
+token_first (l ∷ letters) = at (is_joining l)
+  where
+    at : (b : Bool) → get_or (if b then l ∷ [] else l ∷ letters) 0 0 ≡ l
+    at true = refl
+    at false = refl
+
+-- so is a token whose letters begin with another
+pub other_token : (letter : ℕ) (letters : List ℕ) (t : Token) → token_text letters ≡ t.text → get_or letters 0 0 ≢ letter → is_text (letter ∷ []) t ≡ false
+other_token letter letters t is other =
+    ap (bytes_eq (letter ∷ [])) (sym is)
+    ∙ other_first letter (token_text letters) (λ same. other (sym (token_first letters) ∙ same))
+
+-- letters that begin with neither an apostrophe nor a hyphen are their text
+pub whole_letters : (letters : List ℕ) → get_or letters 0 0 ≢ 0x27 → get_or letters 0 0 ≢ 0x2D → token_text letters ≡ letters
+whole_letters [] quote dash = refl
+whole_letters (l ∷ letters) quote dash =
+    cond-false (is_joining l) (l ∷ []) (l ∷ letters) (or-false (l == 0x27) (l == 0x2D) (ne_eqb l 0x27 quote) (ne_eqb l 0x2D dash))
+  where
+    or-false : (a b : Bool) → a ≡ false → b ≡ false → (a || b) ≡ false
+    or-false true b is_a is_b = is_a
+    or-false false b is_a is_b = is_b
+
+-- a plain token begins no sign
+pub no_sign_if_plain : (tokens : List Token) (i : ℕ) (d : Token) (text : List ℕ) → i < length tokens → IsPlain text → text ≡ (get_or tokens i d).text
+    → may_begin_sign (drop i tokens) ≡ false
+no_sign_if_plain tokens i d text within plain is =
+    none_but_parenthesis tokens i d within (ap (bytes_eq (codes "(")) (sym is) ∙ plain.parenthesis)
 
 -- whether they are a sign, where the first is `(`
 pub sign_after_parenthesis : (tokens : List Token) (i : ℕ) (d : Token) → i + 2 < length tokens → is_text (codes "(") (get_or tokens i d) ≡ true

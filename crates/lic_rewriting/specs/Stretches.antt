@@ -1,7 +1,7 @@
 -- Tokens of lines, by the places where they begin and end.
-use Rattle.std.specs.Prelude.{◌≡◌, ℕ, ◌+◌, ◌<◌, ◌≤◌, Bool, false, true, List, [], ◌∷◌, length, slice_index, slice_index_or, ◌-◌, IsUtf8}
+use Rattle.std.specs.Prelude.{◌≡◌, ℕ, ◌+◌, ◌<◌, ◌≤◌, ◌&&◌, Bool, false, true, List, [], ◌∷◌, codes, length, slice_index, slice_index_or, ◌-◌, IsUtf8}
 use Rattle.std.specs.Str.{IsCharBoundary}
-use Rattle.lic_lines.specs.Tokens.{Token, is_sign_in_parentheses}
+use Rattle.lic_lines.specs.Tokens.{Token, is_sign_in_parentheses, is_text}
 use Rattle.lic_columns.specs.PlainLines.{HasWords}
 use Rattle.lic_columns.specs.SpanTokens.{span_tokens, spans_by}
 use Rattle.lic_columns.specs.TokenPlaces.{TokenPlaces}
@@ -39,3 +39,9 @@ begins_sign [] = false
 begins_sign (a ∷ []) = false
 begins_sign (a ∷ b ∷ []) = false
 begins_sign (a ∷ b ∷ c ∷ tokens) = is_sign_in_parentheses a b c
+
+-- the first two are `(` and `c`
+abbrev pub may_begin_sign : List Token → Bool
+may_begin_sign [] = false
+may_begin_sign (a ∷ []) = false
+may_begin_sign (a ∷ b ∷ tokens) = is_text (codes "(") a && is_text (codes "c") b

@@ -1,9 +1,9 @@
 //! The first tokens of lines, by the places where they begin and end.
-ghost use Rattle.std.specs.Prelude.{◌≡◌, ◌<◌, ◌≤◌, ◌&&◌, not, true, length, drop, take, slice_index, slice_index_or, codes, IfSome, IsUtf8};
+ghost use Rattle.std.specs.Prelude.{◌≡◌, ◌<◌, ◌≤◌, ◌&&◌, not, false, true, length, drop, take, slice_index, slice_index_or, codes, IfSome, IsUtf8};
 ghost use Rattle.lic_columns.specs.PlainLines.{HasWords};
 ghost use Rattle.lic_columns.specs.SpanTokens.{span_tokens, spans_by, token_text};
 ghost use Rattle.lic_lines.specs.Tokens.{is_text};
-ghost use Rattle.lic_rewriting.specs.Stretches.{AreFrom, AreTokenPlaces, begins_sign};
+ghost use Rattle.lic_rewriting.specs.Stretches.{AreFrom, AreTokenPlaces, begins_sign, may_begin_sign};
 
 use lic_columns::Lines;
 use std::marker::Model;
@@ -202,6 +202,33 @@ impl<'a> Stretch<'a> {
         }
         let before = place(self.ends, i - 1);
         before < place(starts, i)
+    }
+
+    /// Whether the token after the number `i` begins with a `c`, as that of a copyright sign does.
+    #[inline(always)]
+    fn is_before_c(&self, i: usize) -> bool
+        requires { i < length self.now }
+        ensures { result ≡ false → may_begin_sign (drop i self.now) ≡ false }
+    {
+        if self.len() - i < 2 {
+            return false;
+        }
+        self.letters_of(i + 1)[0] == b'c'
+    }
+
+    /// Whether by its first letter the token number `i`, which has these letters, may be of quotes or dashes or begin a copyright sign.
+    #[inline(always)]
+    pub(crate) fn may_be_more(&self, i: usize, letters: &[u8]) -> bool
+        requires within { i < length self.now }
+        requires some { 0 < length letters.now }
+        requires text { (d : _) → token_text letters.now ≡ (slice_index_or self.now i d).text }
+        ensures whole { result ≡ false → token_text letters.now ≡ letters.now }
+        ensures no_sign { result ≡ false → may_begin_sign (drop i self.now) ≡ false }
+    {
+        if letters[0] == b'(' {
+            return self.is_before_c(i);
+        }
+        letters[0] == b'\'' || letters[0] == b'-'
     }
 
     /// Whether it has this text, and no blank comes before it.

@@ -1,8 +1,8 @@
 //! How many tokens a phrase has at most, by the text that it begins with.
-ghost use Rattle.std.specs.Prelude.{◌≡◌, ◌<◌, ◌∷◌, ℕ, List, bytes_eq, length, min, reverse, slice_index, true, unwrap_or};
+ghost use Rattle.std.specs.Prelude.{◌≡◌, ◌<◌, ◌∷◌, ℕ, List, bytes_eq, length, min, slice_index, true, unwrap_or};
 ghost use Rattle.indexmap.specs.IndexMap.{get_by};
 ghost use Rattle.lic_trim.specs.PieceLengths.{has_bit};
-ghost use Rattle.lic_phrases.specs.FirstTexts.{may_have, HasAll, HasAllEnds, HasOthers};
+ghost use Rattle.lic_phrases.specs.FirstTexts.{by_pair, may_have, pair_of, HasAll, HasAllByPair, HasOthers, HasSigns};
 
 use indexmap::IndexMap;
 use std::alloc::{AllocError, Global};
@@ -23,11 +23,13 @@ pub(crate) struct Firsts {
     /// A prefilter: for each first byte, how long the texts are that begin with it, a bit for each length. It has those of texts
     /// that begin a phrase, and those that are not plain.
     lengths: [u32; BYTES],
-    /// The same for each last byte, with texts that begin a phrase alone.
-    ends: [u32; BYTES],
+    /// The same for each number that a first and a last byte make: few other texts have both and the length. It has the bits
+    /// of texts that begin a phrase, of `copyright` and of `https`.
+    pairs: [u32; BYTES],
     ghost all: { HasAll lengths (λ text. unwrap_or (get_by (λ k. bytes_eq text k.items) most) 0) },
     ghost others: { HasOthers lengths },
-    ghost all_ends: { HasAllEnds ends (λ text. unwrap_or (get_by (λ k. bytes_eq text k.items) most) 0) },
+    ghost all_pairs: { HasAllByPair pairs (λ text. unwrap_or (get_by (λ k. bytes_eq text k.items) most) 0) },
+    ghost signs: { HasSigns pairs },
 }
 
 /// Whether there is a bit for the first byte of this text and its length.
@@ -50,32 +52,43 @@ fn add(lengths: &mut [u32; BYTES], text: &[u8])
     lengths[text[0] as usize] |= 1 << text.len().min(LONG);
 }
 
-/// Whether there is a bit for texts of `len` bytes that begin with this byte.
+/// Whether there is a bit for texts of `len` bytes in the row of this number.
 #[inline(always)]
-fn has(table: &[u32; BYTES], byte: u8, len: usize) -> bool
-    ensures { result ≡ has_bit (slice_index table.now byte) (min len 31) }
+fn has(table: &[u32; BYTES], row: u8, len: usize) -> bool
+    ensures { result ≡ has_bit (slice_index table.now row) (min len 31) }
 {
-    (table[byte as usize] >> len.min(LONG)) & 1 == 1
+    (table[row as usize] >> len.min(LONG)) & 1 == 1
 }
 
-/// Whether there is a bit for the last byte of this text and its length.
+/// The number that the first and the last byte of a text make.
 #[inline(always)]
-fn may_end(ends: &[u32; BYTES], text: &[u8]) -> bool
+fn pair_of(text: &[u8]) -> u8
     requires { 0 < length text.now }
-    ensures { result ≡ may_have ends.now (reverse text.now) }
+    ensures { result ≡ pair_of text.now }
 {
-    has(ends, text[text.len() - 1], text.len())
+    let first = text[0];
+    let last = text[text.len() - 1];
+    first.wrapping_mul(8).wrapping_add(last)
 }
 
-/// Adds a bit for the last byte of this text and its length.
-fn add_end(ends: &mut [u32; BYTES], text: &[u8])
-    ensures added { may_have ends.new (reverse text.now) ≡ true }
-    ensures grows { (t : List ℕ) → may_have ends.old t ≡ true → may_have ends.new t ≡ true }
+/// Whether there is a bit for the first and the last byte of this text and its length.
+#[inline(always)]
+fn may_have_pair(pairs: &[u32; BYTES], text: &[u8]) -> bool
+    requires { 0 < length text.now }
+    ensures { result ≡ may_have pairs.now (by_pair text.now) }
+{
+    has(pairs, pair_of(text), text.len())
+}
+
+/// Adds a bit for the first and the last byte of this text and its length.
+fn add_pair(pairs: &mut [u32; BYTES], text: &[u8])
+    ensures added { may_have pairs.new (by_pair text.now) ≡ true }
+    ensures grows { (t : List ℕ) → may_have pairs.old t ≡ true → may_have pairs.new t ≡ true }
 {
     if text.is_empty() {
         return;
     }
-    ends[text[text.len() - 1] as usize] |= 1 << text.len().min(LONG);
+    pairs[pair_of(text) as usize] |= 1 << text.len().min(LONG);
 }
 
 /// Adds all bits for a first byte but that of this byte alone.
@@ -99,10 +112,20 @@ fn no_lengths() -> [u32; BYTES]
     lengths
 }
 
+/// The prefilter by first and last bytes where no text begins a phrase.
+fn no_pairs() -> [u32; BYTES]
+    ensures { HasSigns result }
+{
+    let mut pairs = [0; BYTES];
+    add_pair(&mut pairs, b"copyright");
+    add_pair(&mut pairs, b"https");
+    pairs
+}
+
 impl Firsts {
     ghost use Rattle.std.specs.Prelude.{◌≤◌, IsTrue, OnOk, OnErr};
     ghost use Rattle.indexmap.specs.IndexMap.{IsUnchanged};
-    ghost use Rattle.lic_phrases.specs.FirstTexts.{IsPlain};
+    ghost use Rattle.lic_phrases.specs.FirstTexts.{IsNoSign, IsPlain};
     ghost use Rattle.lic_phrases.specs.Firsts.{bound_from};
     ghost use Rattle.lic_phrases.specs.PhraseLists.{IsRaised};
 
@@ -113,7 +136,7 @@ impl Firsts {
         Firsts {
             most: IndexMap::new(alloc),
             lengths: no_lengths(),
-            ends: [0; BYTES],
+            pairs: no_pairs(),
         }
     }
 
@@ -132,7 +155,7 @@ impl Firsts {
         let first = Vec::from_slice(alloc, text)?;
         self.most.insert(first, most)?;
         add(&mut self.lengths, text);
-        add_end(&mut self.ends, text);
+        add_pair(&mut self.pairs, text);
         Ok(())
     }
 
@@ -144,7 +167,7 @@ impl Firsts {
         self.most.get(text).copied().unwrap_or(0)
     }
 
-    /// The same, where mostly the first byte and the length or the last byte and the length have the answer.
+    /// The same, where mostly a look into the tables has the answer.
     #[inline(always)]
     pub(crate) fn most_from(&self, text: &[u8]) -> usize
         ensures { result ≡ bound_from self.now text.now }
@@ -152,10 +175,7 @@ impl Firsts {
         if self.most.is_empty() {
             return 0;
         }
-        if !text.is_empty() && !may_have(&self.lengths, text) {
-            return 0;
-        }
-        if !text.is_empty() && !may_end(&self.ends, text) {
+        if !text.is_empty() && !may_have_pair(&self.pairs, text) {
             return 0;
         }
         self.listed(text)
@@ -169,5 +189,15 @@ impl Firsts {
         ensures none { IsTrue result → bound_from self.now text.now ≡ 0 }
     {
         !may_have(&self.lengths, text)
+    }
+
+    /// Whether the prefilter by first and last bytes alone says that this text is neither `copyright` nor `https` and begins no phrase.
+    #[inline(always)]
+    pub(crate) fn begins_none(&self, text: &[u8]) -> bool
+        requires { 0 < length text.now }
+        ensures no_sign { IsTrue result → IsNoSign text.now }
+        ensures none { IsTrue result → bound_from self.now text.now ≡ 0 }
+    {
+        !may_have_pair(&self.pairs, text)
     }
 }

@@ -1,14 +1,15 @@
 //! Plain tokens of lines that are spelled together.
 ghost use Rattle.std.specs.Prelude.{◌≡◌, ◌+◌, ◌++◌, ◌^◌, ◌≤◌, ◌<◌, ◌⊎◌, false, length, drop, slice_index, slice_index_or, take};
-ghost use Rattle.std.specs.Prelude.{IfSome, IsUtf8};
+ghost use Rattle.std.specs.Prelude.{IfSome, IsTrue, IsUtf8};
 ghost use Rattle.lic_columns.specs.Bytes.{is_word};
 ghost use Rattle.lic_columns.specs.PlainLines.{HasWords};
+ghost use Rattle.lic_columns.specs.SpanTokens.{token_text};
 ghost use Rattle.lic_phrases.specs.Settling.{IsLeft, nothing_kept};
 ghost use Rattle.lic_phrases.specs.Spelling.{blank_if, spelled};
 ghost use Rattle.lic_rewriting.specs.Batches.{AreInBatch};
 ghost use Rattle.lic_tokens.specs.Places.{texts_of};
 ghost use Rattle.lic_tokens.specs.Tokens.{HaveTexts};
-ghost use Rattle.lic_rewriting.specs.Stretches.{begins_sign};
+ghost use Rattle.lic_rewriting.specs.Stretches.{begins_sign, may_begin_sign};
 
 use crate::rewriting::Rewriting;
 use crate::stretch::{COPIED, Stretch};
@@ -111,8 +112,27 @@ pub(crate) fn is_word_at(text: &[u8], i: usize) -> bool
     is_word_byte(text[i])
 }
 
+/// Whether a look or two into tables say that the token number `i`, which has these letters, is plain.
+#[inline(always)]
+fn is_plain_by_tables(phrases: &Phrases, stretch: &Stretch<'_>, i: usize, letters: &[u8]) -> bool
+    requires within { i < length stretch.now }
+    requires some { 0 < length letters.now }
+    requires text { (d : _) → token_text letters.now ≡ (slice_index_or stretch.now i d).text }
+    ensures whole { IsTrue result → token_text letters.now ≡ letters.now }
+    ensures no_sign { IsTrue result → may_begin_sign (drop i stretch.now) ≡ false }
+    ensures left { IsTrue result → IsLeft phrases.now.phrases letters.now }
+{
+    if Rewriter::leaves_plain(phrases, letters) {
+        return true;
+    }
+    if stretch.may_be_more(i, letters) {
+        return false;
+    }
+    Rewriter::leaves_by_pair(phrases, letters)
+}
+
 /// The text of the token number `i` of lines, if it is plain: no copyright sign begins there, and where the rewriter keeps
-/// none back, it leaves the token as it is. Mostly the first letter and the length say so.
+/// none back, it leaves the token as it is.
 #[inline(always)]
 pub(crate) fn plain_text<'a>(phrases: &Phrases, stretch: &Stretch<'a>, i: usize) -> Option<&'a [u8]>
     requires { i < length stretch.now }
@@ -123,7 +143,7 @@ pub(crate) fn plain_text<'a>(phrases: &Phrases, stretch: &Stretch<'a>, i: usize)
     ensures left { IfSome result (λ text. IsLeft phrases.now.phrases text.now) }
 {
     let letters = stretch.letters_of(i);
-    if Rewriter::leaves_plain(phrases, letters) {
+    if is_plain_by_tables(phrases, stretch, i, letters) {
         return Some(letters);
     }
     plain_after_look(phrases, stretch, i)
@@ -195,7 +215,7 @@ pub(crate) fn spell(
     state
 }
 
-/// Spells more tokens, as long as there are fewer than `most` and the table says of each that it is plain. It is a function of its own,
+/// Spells more tokens, as long as there are fewer than `most` and the tables say of each that it is plain. It is a function of its own,
 /// since its loop is quicker with few values beside it.
 #[inline(never)]
 fn spell_plain(
@@ -231,7 +251,7 @@ fn spell_plain(
         let Some(letters) = tokens.wide_letters(count) else {
             break;
         };
-        if text.len() > COPIED || !Rewriter::leaves_plain(phrases, text) {
+        if text.len() > COPIED || !is_plain_by_tables(phrases, &tokens, count, text) {
             break;
         }
         let (start, end) = (tokens.start(count), tokens.end(count));

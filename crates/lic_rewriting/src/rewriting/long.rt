@@ -60,7 +60,7 @@ impl Rewriting<'_> {
                 TextStart::Token(length) => {
                     let start = rest[0].start;
                     let end = rest[length - 1].end;
-                    // Before its letters are copied: a token can be as long as the text.
+                    // Before its text is listed: a token can be as long as the text.
                     place = let_go(characters, place + length);
                     self.take_text(alloc, letters.as_str(), start, end, after_blank)?;
                     after_blank = false;

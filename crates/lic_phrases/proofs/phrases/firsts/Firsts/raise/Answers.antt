@@ -5,7 +5,7 @@ use Rattle.indexmap.specs.IndexMap.{get_by}
 use Rattle.lic_phrases.specs.Firsts.{bound_from}
 use Rattle.lic_phrases.specs.PhraseLists.{IsRaised}
 use Rattle.lic_phrases.proofs.ByteKeys.{found_in, updated}
-use Rattle.lic_phrases.proofs.FirstsLemmas.{HasAll-raised, HasAllEnds-raised, HasOthers-grown}
+use Rattle.lic_phrases.proofs.FirstsLemmas.{HasAll-raised, HasAllByPair-raised, HasOthers-grown, HasSigns-grown}
 use Rattle.lic_phrases.proofs.PhraseListLemmas.{IsRaised-update}
 use Rattle.lic_phrases.proofs.phrases.firsts.Firsts.raise.Goals as goal
 
@@ -24,8 +24,9 @@ invariant_of-self-2 c =
       all = HasAll-raised c.args.self.now.lengths c.add.new.lengths c.args.text.now c.args.count old new c.args.self.now.all raised
           c.add.ensures.added c.add.ensures.grows;
       others = HasOthers-grown c.args.self.now.lengths c.add.new.lengths c.add.ensures.grows c.args.self.now.others;
-      all_ends = HasAllEnds-raised c.args.self.now.ends c.add_end.new.ends c.args.text.now c.args.count old new c.args.self.now.all_ends raised
-          c.add_end.ensures.added c.add_end.ensures.grows;
+      all_pairs = HasAllByPair-raised c.args.self.now.pairs c.add_pair.new.pairs c.args.text.now c.args.count old new c.args.self.now.all_pairs raised
+          c.add_pair.ensures.added c.add_pair.ensures.grows;
+      signs = HasSigns-grown c.args.self.now.pairs c.add_pair.new.pairs c.add_pair.ensures.grows c.args.self.now.signs;
     }
 
 pub returns-clause-raised : goal.returns-clause-raised
