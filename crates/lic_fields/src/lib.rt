@@ -14,7 +14,7 @@ mod thousand;
 use itoa::{Buffer, write_digits};
 pub use line_buffer::LineBuffer;
 pub use line_front::LineFront;
-pub use line_pattern::LinePattern;
+pub use line_pattern::{LINE_ROOM, LinePattern, TEXT_ROOM};
 use std::alloc::AllocError;
 use std::fmt;
 

@@ -3,7 +3,7 @@
 ghost use Rattle.std.specs.Prelude.{◌≡◌, ◌<◌, ◌≤◌, ◌+◌, ◌^◌, ◌++◌, [], true, length, replicate, take, OnErr, OnOk, decimal};
 ghost use Rattle.lic_fields.specs.Fields.{ArePlain, escaped, field};
 
-use crate::line_pattern::LONGEST;
+use crate::line_pattern::LINE_ROOM;
 use crate::{add_text, add_two_numbers};
 use std::alloc::{AllocError, Global};
 use std::marker::Model;
@@ -158,7 +158,7 @@ impl LineBuffer {
         make_space(&mut self.bytes, self.len, count)?;
         write_bytes(&mut self.bytes, self.len, &self.line);
         self.len += count;
-        make_space(&mut self.bytes, self.len, LONGEST)?;
+        make_space(&mut self.bytes, self.len, LINE_ROOM)?;
         Ok(())
     }
 }

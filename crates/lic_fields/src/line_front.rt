@@ -28,9 +28,8 @@ fn write_numbers(bytes: &mut [u8], same: usize, first: u64, second: u64) -> (usi
     (same + (middle - at), same + (TWO_NUMBERS - at))
 }
 
-/// What begins lines: bytes that are the same in all, and two numbers as fields, a tab after each. What was written last is kept: the
-/// numbers of the next line mostly differ from it in their last three digits alone, and it is then written over a copy
-/// (`LinePattern`).
+/// What begins lines: bytes that are the same in all, and two numbers as fields, a tab after each. Two numbers are kept: those of the
+/// next lines mostly differ from them in their last three digits alone, and are then written over a copy (`LinePattern`).
 #[derive(Debug, Drop)]
 pub struct LineFront {
     // the bytes that are the same in all, and two numbers of three digits or more as fields; and then any, so that a block can be copied

@@ -8,7 +8,7 @@ use std::marker::Model;
 use std::simd::prelude::*;
 
 /// How many bytes of a text are copied at once: most texts have fewer.
-const COPIED: usize = 16;
+pub const TEXT_ROOM: usize = 16;
 
 /// How many bytes of what a line begins with are copied at once: the least of these numbers that is enough.
 const SHORTEST: usize = 32;
@@ -20,8 +20,8 @@ const SHORT: usize = 80;
 /// The most of them: most lines begin with fewer.
 pub(crate) const LONG: usize = 128;
 
-/// How many bytes a line is written over: a copy, a text and the line end.
-pub(crate) const LONGEST: usize = 145;
+/// The most bytes that a line is written over: a copy, a text and the line end.
+pub const LINE_ROOM: usize = 145;
 
 /// Writes four bytes so that they end at `end`.
 #[inline(always)]
@@ -145,8 +145,7 @@ impl<'a> Model for LinePattern<'a> {
 impl LinePattern<'_> {
     /// Writes a line after the first `at` of these bytes: the bytes that are the same in all, these numbers, and the first `len` bytes
     /// of a text, none of which is escaped. Answers where it ends. None, and nothing is written, where the numbers differ from those of
-    /// the pattern in more than their last three digits, where the text or what begins the line is long, or where the bytes are too
-    /// few.
+    /// the pattern in more than their last three digits, or where the text or what begins the line is long.
     #[inline(always)]
     pub fn write_line(
         &self,
@@ -157,17 +156,18 @@ impl LinePattern<'_> {
         text: &[u8],
         len: usize,
     ) -> Option<usize>
-        requires within { at ≤ length bytes.old }
+        requires room { at + LINE_ROOM ≤ length bytes.old }
+        requires wide { TEXT_ROOM ≤ length text.now }
         requires fits { len ≤ length text.now }
         requires plain { ArePlain (take len text.now) }
         ensures stays { result ≡ None → bytes.new ≡ bytes.old }
-        ensures end { IfSome result (λ end. (at ≤ end) × (end ≤ length bytes.new)) }
+        ensures end { IfSome result (λ end. (at ≤ end) × (end ≤ at + LINE_ROOM)) }
         ensures line { IfSome result (λ end. take end bytes.new ≡ take at bytes.old
             ++ (self.now ++ (field (decimal first) 0x09 ++ (field (decimal second) 0x09
             ++ field (escaped (take len text.now)) 0x0A)))) }
         ensures len { length bytes.new ≡ length bytes.old }
     {
-        if bytes.len() - at < LONGEST || len > COPIED || text.len() < COPIED || self.len > LONG {
+        if len > TEXT_ROOM || self.len > LONG {
             return None;
         }
         let Some(one) = self.thousand.digits_of(first) else {

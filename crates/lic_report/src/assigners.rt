@@ -12,8 +12,8 @@ use std::alloc::{AllocError, Global};
 use std::collections::HashMap;
 use std::marker::Model;
 
-/// Answers the values of matches of a set's templates. A template is compiled with its first match, and kept for the others: so it is
-/// compiled once, and what is kept is linear in the templates that had a match.
+/// Answers the values of matches of a set's templates. A template is compiled with its first match, and kept for the others, and
+/// what is kept is linear in the templates that had a match.
 #[derive(Debug, Drop)]
 pub struct Assigners<'s> {
     set: &'s Set,

@@ -1,15 +1,27 @@
 //! The lines of a text's tokens.
 
-ghost use Rattle.std.specs.Prelude.{◌≡◌, ◌<◌, ◌≤◌, ◌++◌, ◌+◌, ℕ, false, true, length, slice_range, take, IfOk, OnOk};
+ghost use Rattle.std.specs.Prelude.{◌≡◌, ◌<◌, ◌≤◌, ◌++◌, ◌+◌, ◌-◌, ◌*◌, ℕ, false, true, length, slice_range, take, IfOk, OnOk};
 ghost use Rattle.lic_fields.specs.Fields.{ArePlain, escaped, field};
 ghost use Rattle.lic_tokens.specs.Slices.{sliced_tokens};
 ghost use Rattle.lic_report.specs.TokenLines.{ArePlainAfter, lines_between};
 
 use crate::lines::add_file;
-use lic_fields::{LineBuffer, LineFront, LinePattern, next_escaped};
+use lic_fields::{LINE_ROOM, LineBuffer, LineFront, LinePattern, TEXT_ROOM, next_escaped};
 use lic_norm::{Span, Text, TokenSlices};
 use std::alloc::{AllocError, Global};
 use std::marker::Model;
+
+/// Up to which of `count` tokens, from the number `from` on, there is room for lines after the first `at` of these bytes.
+#[inline(always)]
+fn room_to(bytes: &[u8], at: usize, count: usize, from: usize) -> usize
+    requires within { at ≤ length bytes.now }
+    requires order { from ≤ count }
+    ensures order { (from ≤ result) × (result ≤ count) }
+    ensures room { at + LINE_ROOM * (result - from) ≤ length bytes.now }
+{
+    let lines = (bytes.len() - at) / LINE_ROOM;
+    from + lines.min(count - from)
+}
 
 /// Writes lines of tokens, from the number `from` on, after the first `at` of these bytes, up to the first whose line is not written
 /// over them. Answers where the lines end, and the number of that token.
@@ -33,13 +45,19 @@ fn write_lines(
 {
     let mut end = at;
     let mut i = from;
-    while i < tokens.len() {
+    let spelled = tokens.spelled();
+    if spelled.len() < TEXT_ROOM {
+        return (end, i);
+    }
+    let last = plain_to.min(spelled.len() - TEXT_ROOM);
+    let stop = room_to(bytes, at, tokens.len(), from);
+    while i < stop {
         let place = tokens.place(i);
-        if place.end > plain_to {
+        if place.end > last {
             break;
         }
         let span = tokens.span(i);
-        let letters = &tokens.spelled()[place.start..];
+        let letters = &spelled[place.start..];
         let len = place.end - place.start;
         let Some(line_end) = pattern.write_line(
             bytes,

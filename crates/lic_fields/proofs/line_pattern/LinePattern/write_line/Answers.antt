@@ -11,7 +11,7 @@ pub overflow_add-at : goal.overflow_add-at
 overflow_add-at c =
     let kept = c.self.inside in
     let ends = kept_end kept.bytes.now kept.same kept.first_end kept.len kept.thousand c.self.invariant in
-    omega (arith, ends, c.if-bytes-at-lt-LONGEST.false, c.if-self-gt-LONG.false)
+    omega (arith, ends, c.requires.room, c.if-self-gt-LONG.false)
 
 pub write_four-requires : goal.write_four-requires
 write_four-requires c =
@@ -19,7 +19,7 @@ write_four-requires c =
     let ends = kept_end kept.bytes.now kept.same kept.first_end kept.len kept.thousand c.self.invariant in
     let same = c.write_block.ensures.len in (
       ap length (take_all 4 c.in-Some.one.now (omega (arith, c.in-Some.ensures.0))) ∙ c.in-Some.ensures.0,
-      (omega (arith, c.self.invariant.end_is), omega (arith, ends, same, c.if-bytes-at-lt-LONGEST.false, c.if-self-gt-LONG.false)),
+      (omega (arith, c.self.invariant.end_is), omega (arith, ends, same, c.requires.room, c.if-self-gt-LONG.false)),
     )
 
 pub write_four-requires-2 : goal.write_four-requires-2
@@ -28,7 +28,7 @@ write_four-requires-2 c =
     let ends = kept_end kept.bytes.now kept.same kept.first_end kept.len kept.thousand c.self.invariant in
     let same = c.write_block.ensures.len in (
       ap length (take_all 4 c.in-Some-digits_of.two.now (omega (arith, c.in-Some-digits_of.ensures.0))) ∙ c.in-Some-digits_of.ensures.0,
-      (omega (arith, ends), omega (arith, same, c.write_four.auto, c.if-bytes-at-lt-LONGEST.false, c.if-self-gt-LONG.false)),
+      (omega (arith, ends), omega (arith, same, c.write_four.auto, c.requires.room, c.if-self-gt-LONG.false)),
     )
 
 pub returns-clause-line : goal.returns-clause-line
@@ -48,7 +48,7 @@ returns-clause-line c =
     let end = at + kept.len in
     let line = take at bytes in
     let same = take kept.same kept.bytes.now in
-    let line_long : length line ≡ at = length-take-le at bytes c.requires.within in
+    let line_long : length line ≡ at = length-take-le at bytes (omega (arith, c.requires.room)) in
     let long : length same ≡ kept.same = length-take-le kept.same kept.bytes.now (omega (arith, known.enough)) in
     let block = c.write_block.new.bytes in
     let after = drop end block in
