@@ -35,8 +35,7 @@ end, and the value. If a variable has no value, a - follows its name.
 
 F:L:ID are the numbers of a first and a last token, and an identifier.
 
-Status: 0 if a line was written, 1 if none was, 2 if anything was refused or
-could not be read or written.
+Status: 0 if a line was written, 1 if none was, 2 if there was an error.
 
 Example: licscan scan --templates templates LICENSE README";
 
@@ -50,8 +49,7 @@ A template is a line of three fields with a tab between two: the identifier,
 the weight, and yes or no. The original text is the template with each
 variable's original value in its place and with all optional parts.
 
-Status: 1 if a line says no, else 0; 2 if anything was refused or could not be
-read or written.
+Status: 1 if a line says no, else 0; 2 if there was an error.
 
 Example: licscan check --templates templates";
 
@@ -61,8 +59,7 @@ const TOKENS_DETAILS: &str = "\
 A line has four fields with a tab between two: the file, the byte at which the
 token starts, the byte just past its end, and the token's text.
 
-Status: 0 if a line was written, 1 if none was, 2 if anything was refused or
-could not be read or written.
+Status: 0 if a line was written, 1 if none was, 2 if there was an error.
 
 Example: licscan tokens LICENSE";
 

@@ -27,9 +27,9 @@ fn words_given(rt: &HostRuntime) -> Result<Vec<String>, Stop> {
     }
 }
 
-/// The number of the first word that is not UTF-8, the first after the program's name being 1.
+/// The number of the first word that is not UTF-8, the program's name being 0.
 fn first_not_utf8(rt: &HostRuntime) -> Result<usize, AllocError> {
-    let mut number = 1usize;
+    let mut number = 0usize;
     let mut word = vec![in rt.alloc(); 0u8; WORD_BYTES]?;
     for _ in 0..usize::MAX {
         match rt.arg(number, word.as_mut_slice()) {
