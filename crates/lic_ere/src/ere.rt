@@ -28,7 +28,7 @@ pub enum Ere {
     },
 }
 
-/// A pattern of a million bytes has up to a million of them.
+/// A pattern of a million bytes may have more than a million of them.
 const _: () = prove!(size_of::<Ere>() == 32);
 
 /// A list of at most this many trees is moved to memory of its own size: what it leaves free would be too small to be of

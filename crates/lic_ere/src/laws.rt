@@ -9,7 +9,7 @@ ghost use Rattle.lic_ere.specs.Spelling.{IsBracket};
 ghost use Rattle.lic_ere.specs.Trees.{Tree};
 ghost use Rattle.lic_ere.specs.declared.fault.EreFault.{EreFault};
 
-/// No bracket begins with `[:`, `[.` or `[=`: POSIX's named sets, collating symbols and equivalence classes are refused.
+/// No bracket begins with `[[:`, `[[.` or `[[=`: POSIX's named sets, collating symbols and equivalence classes are refused.
 pub fn brackets_name_no_sets()
     ensures { (x y : Located) (cs rest : List Located) (b : Brackets) → x.1 ≡ 0x5B
         → (y.1 ≡ 0x3A) ⊎ ((y.1 ≡ 0x2E) ⊎ (y.1 ≡ 0x3D))

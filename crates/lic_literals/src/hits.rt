@@ -9,7 +9,7 @@ ghost use Rattle.std.proofs.Props.{props};
 use std::alloc::{AllocError, Global};
 use std::collections::HashMap;
 
-// The most offsets of all windows that are listed. Past it a window that occurs counts as occurring anywhere.
+// Once so many offsets of all windows are listed, a window that occurs counts as occurring anywhere.
 const MOST_PLACES: usize = 262_144;
 
 /// A window that occurs, by its number, and its offsets in rising order.

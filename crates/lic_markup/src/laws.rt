@@ -79,7 +79,7 @@ pub fn a_text_describes_its_source()
         (map (λ t. chars t.text) (tokens_of rules words source)) }
 {}
 
-/// An accepted template without rules is one text, which has the letters of the whole template as a piece.
+/// An accepted template without a `<` is one text, which has the letters of the whole template as a piece.
 pub fn a_template_without_rules_is_one_text()
     ensures { (rules : LineRules) (words : List Phrase) (template : List ℕ) (read : Reading)
         → IsUtf8 template → list_any (λ c. c == less) (chars template) ≡ false

@@ -17,7 +17,7 @@ use lic_view::{Keep, Stop, View, kept, over_text, tokens_have_texts};
 use std::alloc::Global;
 use std::mem;
 
-/// The places from which up to `count` copies of a text lead to those of the spans: each time on from the places that are new.
+/// The places from which up to `count` copies of a text lead to those of the spans: each time on from places that may be new.
 #[inline(never)]
 pub fn over_copies(
     alloc: Global,

@@ -4,7 +4,7 @@ ghost use Rattle.std.specs.Prelude.{◌≡◌, ◌↔◌, IsTrue};
 
 /// What the places of a span are.
 ///
-/// The meaning of each kind belongs to the search; here only equality and order count.
+/// The meaning of each kind belongs to the search; here only equality, order and whether it is one place count.
 #[derive(Clone, Copy, Debug, PartialEq, Eq, PartialOrd, Ord)]
 pub enum SpanKind {
     /// The end of its last token, where no letter was taken yet: one place.

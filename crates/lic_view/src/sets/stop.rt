@@ -7,7 +7,7 @@ use std::alloc::{AllocError, AllocFailed};
 pub enum Stop {
     /// Memory ran out.
     Memory,
-    /// There were more spans than are kept.
+    /// There were more spans, or numbers in them, than are kept.
     TooMany,
 }
 
