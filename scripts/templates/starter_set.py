@@ -125,6 +125,9 @@ SENTENCES = [
     ("available under the terms of the GNU Lesser General Public License, version 2.1", ["LGPL-2.1"], []),
     ("This code is in the public domain.", ["public-domain"], []),
     ("It is not in the public domain", ["no-grant-mention"], []),
+    ("<one line to give the program's name and a brief idea of what it does.>\nCopyright (C) 2010 Jane Doe\nThis program is free software; you can "
+     "redistribute it and/or modify it under the terms of the GNU General Public License as published by the Free Software Foundation; either version 2 "
+     "of the License, or (at your option) any later version.", ["GPL-2.0-or-later"], []),
     ("It is not licensed under the MIT License", ["no-grant-mention"], []),
     ("a GPL-compatible licence", ["no-grant-mention"], []),
     ("Compare the MIT License", [], ["MIT-mention"]),
