@@ -70,7 +70,7 @@ def run(program, case):
 
 
 def is_out_of_memory(ran):
-    """Whether the program said that memory ran out, and wrote nothing."""
+    """Whether the program said at its end that memory ran out; it may have written a part of its lines."""
     lines = ran.err.splitlines()
     return ran.status == 2 and bool(lines) and lines[-1].endswith(OUT_OF_MEMORY)
 

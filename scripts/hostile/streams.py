@@ -49,7 +49,7 @@ def of_handles():
 
 
 def of_address_space():
-    """Less and less address space: the answer is the whole one, or that memory ran out."""
+    """Less and less address space: a run ends well, or says that memory ran out."""
     group = 'limits of address space'
     chosen = templates(A='foo bar', W=f'x {variable(".{0,5000}")} of {variable("(a|b){30000}")} y', O='q' + '<<beginOptional>> z<<endOptional>>' * 2_000)
     text = b'foo bar x ab of ab y q z z z ' * 40 + b'foo bar ' * 20_000

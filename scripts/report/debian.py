@@ -80,8 +80,8 @@ def folders_of(file):
         yield file
 
 
-def with_versions(answers):
-    """A family alone is the version of it that the next LICENSE or COPYING at its file, or above, has."""
+def with_versions(answers, alone):
+    """A family that is named alone, as in these files, is the version of it that the next LICENSE or COPYING at its file, or above, has."""
     of_folders = collections.defaultdict(set)
     for file, answer in answers.items():
         if OF_FOLDER.fullmatch(os.path.basename(file)) and " " not in answer:
@@ -89,7 +89,7 @@ def with_versions(answers):
     versions = {}
     for file, answer in answers.items():
         family = answer.removesuffix("-style")
-        if family in lines.FAMILIES:
+        if file in alone and family in lines.FAMILIES:
             found = ([it for it in of_folders[folder] if it.startswith(f"{family}-")] for folder in folders_of(file))
             nearest = next(filter(None, found), [])
             versions[file] = nearest[0] if len(nearest) == 1 else answer
@@ -138,7 +138,9 @@ def page(found, name):
     answers = {file: licence_of(licences_of(it)) or "FIXME" for file, it in found.items() if any(one.licence != "" for one in it)}
     # what is in NAME.license counts for NAME
     answers.update({it.removesuffix(".license"): answers[it] for it in list(answers) if it.endswith(".license") and os.path.exists(it.removesuffix(".license"))})
-    answers = with_versions(answers)
+    # (a version may be called as its family: Artistic-1.0-Perl is Debian's Artistic)
+    alone = {file for file, it in found.items() if all(name.removesuffix("-style") in lines.FAMILIES for name in licences_of(it))}
+    answers = with_versions(answers, alone | {it.removesuffix(".license") for it in alone})
     texts = {name_of(one.id): one for it in found.values() for one in it if lines.SUFFIX.sub("", one.id) == one.id and one.licence}
     for file, answer in answers.items():
         if " with " in answer and exceptions_of(found.get(file, [])):

@@ -1,4 +1,5 @@
 """Reads the lines that `licscan scan` writes: matches with their variables, and the licences that they name."""
+import itertools
 import os
 import re
 import signal
@@ -50,9 +51,9 @@ class Match:
             return None
         expression = EXPRESSION.match(self.id)
         if expression:
-            return f"{' '.join(self.values[0].split())} {expression[1]} {expression[2]}"
+            return closed(f"{' '.join(self.values[0].split())} {expression[1]} {expression[2]}")
         if WHOLE.match(self.id):
-            return " ".join(self.expression.split())
+            return closed(" ".join(self.expression.split()))
         name = SUFFIX.sub("", self.id)
         if re.search("-(identifier|field)(-[b-z])?(-dot)?$", self.id):
             name = identifier(name)
@@ -107,6 +108,13 @@ class Match:
             return bool(STREAK.search(text[:size]) or JOINED.match(text, size - 1))
         except OSError:
             return self.id.endswith("-dot") or (self.id == "expression-b" and self.values[1].startswith("."))
+
+
+def closed(expression):
+    """An expression with its last parentheses, which are not in the range of a tag, and with none around it as a whole."""
+    expression += ")" * (expression.count("(") - expression.count(")"))
+    depths = list(itertools.accumulate((it == "(") - (it == ")") for it in expression))
+    return expression[1:-1] if expression.startswith("(") and 0 not in depths[:-1] else expression
 
 
 def length(text):

@@ -23,7 +23,7 @@ MATCHES = [
     ("MIT", [], "MIT"), ("MIT-notice-b", [], "MIT"), ("GPL-2.0-b", [], "GPL-2.0"), ("GPL-2+-field", [], "GPL-2.0-or-later"), ("Expat-field", [], "MIT"),
     ("GPL-2.0-identifier", [], "GPL-2.0-only"), ("GPL-2.0-mention", ["2"], "GPL-2.0"), ("expression-OR-MIT", ["ISC"], "ISC OR MIT"),
     ("expression-OR-MIT-b", ["ISC"], "ISC OR MIT"), ("LicenseRef-identifier-c", ["A-B.2"], "LicenseRef-A-B.2"), ("DocumentRef-identifier-b", ["A", "B-C"], "DocumentRef-A:LicenseRef-B-C"),
-    ("expression", ["(MIT OR\n Own)", "int"], "(MIT OR Own)"), ("own-expression-end-2", ["LicenseRef-A.B"], "LicenseRef-A.B"), ("expression", ["MIT OR\n LicenseRef-A\n.text", "x"], "MIT OR LicenseRef-A"), ("own-expression-end-2", ["LicenseRef-A.\nint"], "LicenseRef-A"),
+    ("expression", ["(MIT OR\n Own)", "int"], "MIT OR Own"), ("expression-OR-MIT", ["(ISC"], "ISC OR MIT"), ("expression", ["(A OR B) AND (C OR D)", "int"], "(A OR B) AND (C OR D)"), ("own-expression-end-2", ["LicenseRef-A.B"], "LicenseRef-A.B"), ("expression", ["MIT OR\n LicenseRef-A\n.text", "x"], "MIT OR LicenseRef-A"), ("own-expression-end-2", ["LicenseRef-A.\nint"], "LicenseRef-A"),
     ("cut-expression-b", ["MIT OR LicenseRef-A", ".B"], None), ("cut-OR-MIT", ["ISC", "AND"], None), ("cut-MIT", ["OR"], None), ("cut-LicenseRef-b", ["A", "-"], None), ("LicenseRef-identifier-c", ["A.B\n.. a"], "LicenseRef-A.B"), ("OR-field-b", ["MIT"], None), ("cut-GPL-2+-field-c", ["with"], "GPL-2.0-or-later WITH unknown"),
     ("cut-Apache-2.0-OR-MIT-field", ["with"], None), ("MIT-field-r", [], "MIT"), ("MIT-field-d", [], "MIT"), ("GPL-2.0-notice-c", ["licensed", "v2"], "GPL-2.0"), ("unknown-identifier", [], None), ("no-grant-mention-b", ["not"], ""), ("other-file-notice", ["lua.h"], ""),
     ("Artistic-1.0-Perl-OR-GPL-1.0-or-later-notice", [], "Artistic-1.0-Perl OR GPL-1.0-or-later"), ("GCC-exception-3.1-notice", [], ""),
@@ -63,12 +63,13 @@ GLOBS = [
     ({"a.c": "X", "b.c": "X", "s/c.c": "Y"}, {"X": ["*"], "Y": ["s/c.c"]}), ({"a.c": "X", "s/t/b.c": "Y", "s/t/c.c": "Y", "c.c": "X"}, {"X": ["*"], "Y": ["s/*"]}),
     ({"s/a.c": "X", "s/b.c": "X", "s/t/c d.c": "Y", "s/t/d.c": "Z"}, {"X": ["*"], "Y": ["s/t/c?d.c"], "Z": ["s/t/d.c"]}),
 ]
-# the answers of files, and those with a version in place of a family
+# the answers of files, those that name a family alone, and the answers with a version in place of a family
 VERSIONS = [
-    ({"LICENSE": "BSD-3-clause", "s/a.hs": "BSD-style", "s/b.hs": "BSD", "s/c.c": "GPL"}, {"LICENSE": "BSD-3-clause", "s/a.hs": "BSD-3-clause", "s/b.hs": "BSD-3-clause", "s/c.c": "GPL"}),
-    ({"COPYING": "GPL-3", "s/LICENSE.txt": "GPL-2+", "s/t/a.c": "GPL", "a.c": "GPL"}, {"COPYING": "GPL-3", "s/LICENSE.txt": "GPL-2+", "s/t/a.c": "GPL-2+", "a.c": "GPL-3"}),
-    ({"COPYING": "GPL-3", "COPYING.old": "GPL-2", "a.c": "GPL"}, {"COPYING": "GPL-3", "COPYING.old": "GPL-2", "a.c": "GPL"}),
-    ({"LICENSE": "BSD-3-clause and Expat", "t/BSD.c": "BSD-2-clause", "a.c": "BSD"}, {"LICENSE": "BSD-3-clause and Expat", "t/BSD.c": "BSD-2-clause", "a.c": "BSD"}),
+    ({"LICENSE": "BSD-3-clause", "s/a.hs": "BSD-style", "s/b.hs": "BSD", "s/c.c": "GPL"}, ["s/a.hs", "s/b.hs", "s/c.c"], {"LICENSE": "BSD-3-clause", "s/a.hs": "BSD-3-clause", "s/b.hs": "BSD-3-clause", "s/c.c": "GPL"}),
+    ({"COPYING": "GPL-3", "s/LICENSE.txt": "GPL-2+", "s/t/a.c": "GPL", "a.c": "GPL"}, ["s/t/a.c", "a.c"], {"COPYING": "GPL-3", "s/LICENSE.txt": "GPL-2+", "s/t/a.c": "GPL-2+", "a.c": "GPL-3"}),
+    ({"COPYING": "GPL-3", "COPYING.old": "GPL-2", "a.c": "GPL"}, ["a.c"], {"COPYING": "GPL-3", "COPYING.old": "GPL-2", "a.c": "GPL"}),
+    ({"LICENSE": "BSD-3-clause and Expat", "t/BSD.c": "BSD-2-clause", "a.c": "BSD"}, ["a.c"], {"LICENSE": "BSD-3-clause and Expat", "t/BSD.c": "BSD-2-clause", "a.c": "BSD"}),
+    ({"LICENSE": "Artistic-2.0", "a.pl": "Artistic", "b.pl": "Artistic"}, ["b.pl"], {"LICENSE": "Artistic-2.0", "a.pl": "Artistic", "b.pl": "Artistic-2.0"}),
 ]
 # lines of files, and their notices
 NOTICES = [
@@ -119,7 +120,7 @@ def main():
     cases += [(names, debian.licence_of(names), field) for names, field, _ in FIELDS]
     cases += [(names, spdx.in_file(names), ids) for names, _, ids in FIELDS]
     cases += [(answers, debian.globs(answers), globs) for answers, globs in GLOBS]
-    cases += [(answers, debian.with_versions(answers), expected) for answers, expected in VERSIONS]
+    cases += [(answers, debian.with_versions(answers, alone), expected) for answers, alone, expected in VERSIONS]
     cases += [(text, notices.found(text), expected) for text, expected in NOTICES]
     cases += [(them, notices.merged(them), expected) for them, expected in MERGED]
     cases += [(ids, lines.answer([lines.Match("f", id, 0) for id in ids]), answer) for ids, answer in FILES]

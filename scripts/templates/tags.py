@@ -5,7 +5,8 @@ Each template goes to OUT/NAME-identifier.template.txt and describes `SPDX-Licen
 to OUT/NAME-field.template.txt and describes the field of a manifest or header: `"license": "IDENTIFIER"`, `license = "IDENTIFIER"`,
 `:license: IDENTIFIER`. An identifier of seven letters has six templates, NAME-field, NAME-field-e .., one of six ten, and a shorter one
 thirteen, NAME-field, NAME-field-b ..: a file is searched for the longest text of a template, and with one for all forms that would be the word
-`license`, which is frequent. NAME is the identifier, with `-` for blanks and without parentheses. A file of that name is written anew.
+`license`, which is frequent. NAME is the identifier, with `-` for blanks and without parentheses, so `(A OR B)` and `A OR B` cannot both be given. A file of that name is
+written anew.
 
 Identifiers come from the command line, from FILE (one on each line; `#` begins a comment), and from the names of the templates in
 DIR: `tags.py --folder license-list-data/template OUT` makes a tag for each licence that is published. An expression is one
@@ -94,6 +95,16 @@ def name_of(identifier):
     return re.sub(r"[()]", "", identifier).replace(" ", "-")
 
 
+def named(identifiers):
+    """Each name with its identifier. Raises ValueError where two have one name."""
+    known = {}
+    for identifier in (" ".join(it.split()) for it in identifiers):
+        other = known.setdefault(name_of(identifier), identifier)
+        if other != identifier:
+            raise ValueError(f"two with one name: {other}, {identifier}")
+    return known
+
+
 def read_arguments():
     parser = argparse.ArgumentParser(description=__doc__, formatter_class=argparse.RawDescriptionHelpFormatter,
                                      usage="tags.py [--field] [--list FILE] [--folder DIR] OUT [IDENTIFIER ..]")
@@ -111,9 +122,9 @@ def main():
         identifiers = list(arguments.identifiers)
         identifiers += read_list(arguments.list) if arguments.list else []
         identifiers += read_folder(arguments.folder) if arguments.folder else []
-        names = [name_of(identifier) for identifier in identifiers]
+        known = named(identifiers)
         os.makedirs(arguments.out, exist_ok=True)
-        for name, identifier in zip(names, identifiers):
+        for name, identifier in known.items():
             for suffix, text in fields_of(identifier) if arguments.field else [("-identifier", TAG)]:
                 with open(os.path.join(arguments.out, name + suffix + ENDING), "w", encoding="utf-8") as file:
                     file.write(text.format(identifier))

@@ -120,7 +120,7 @@ def main():
     parser.add_argument("--licensecheck", action="store_true", help="licensecheck, which is on the path, reads whole files")
     parser.add_argument("--lines", metavar="NAME=FILE", action="append", default=[])
     parser.add_argument("--most", type=int, default=150, help="files of a package, drawn at random by a fixed seed: a large one outweighs all others")
-    parser.add_argument("--show", action="store_true", help="the files of which licscan says another one or nothing")
+    parser.add_argument("--show", action="store_true", help="the files on which licscan does not agree")
     asked = parser.parse_args()
     stated = at_most(asked.most, files_of(asked.folder))
     names = sorted(stated)
