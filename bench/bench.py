@@ -1,25 +1,25 @@
 #!/usr/bin/env python3
 """Times a built licscan, as ratios within one run.
 
-With `--against` each run is made by both programs in turn, and each line ends with the seconds and the memory of the other one, and how many
-times its seconds those of the first are. Inputs are made from fixed seeds by `inputs.py`, so that each machine has the same: licence texts, sources
-of which half have a licence at their heads, templates in the shape of published ones. The starter set is timed, too. The parts, all of them
-where none is named:
+With `--against` both programs are run in turn, and each line ends with the figures of the other one, and how many times its seconds those of the
+first are; in `set` and `growth` they are timed one after the other, on lines of their own. But for `kinds` and `--sources`, inputs are made from
+fixed seeds by `inputs.py`, so that each machine has the same: licence texts, sources of which some half have a licence at their heads, templates in
+the shape of published ones. The starter set is timed, too. The parts, all of them where none is named:
   reading    50 MB of licence texts: `tokens`, and a scan for a template that never occurs, against `wc -m`
   kinds      `tokens` by kind of text, in seconds of the processor, the quickest of 15 runs: real files of this system, prose from its translated
              manual pages, and the sources with 42 lists of equivalent words
-  rules      `tokens` of 10 MB by the profile's line rules and 256 texts, against the profile alone: texts that begin with a sign, and with a letter
+  rules      `tokens` of 10 MB by line rules of 256 texts, the profile's among them, against the profile: the others begin with a sign, or a letter
   start      the start: 700 templates in the shape of published ones, and the starter set
   search     the search beyond reading, `scan` and `scan --all`, each for both sets of templates: 20 MB of sources, 10,000 small files, a megabyte of
              licence texts. The start is taken off, and so is reading: `tokens`, or the scan for nothing where that is quicker (`tokens` writes).
              `--sources` takes files below folders of yours in place of the sources
-  set        the starter set on 200 MB of the files below `--sources`, without its mentions and with them, against `tokens`, in seconds of the
-             processor; the quickest of three runs, which other work on the machine hardly disturbs
+  set        the starter set on 200 MB of the files below `--sources`, or on the 20 MB of sources, without its mentions and with them, and a scan
+             for nothing, against `tokens`, in seconds of the processor; the quickest of three runs
   growth     the cases of scripts/hostile/growing.py, or those whose group or name has the word of `--only`: the processor seconds of five sizes, each
              twice the one before (16 times the first ones at the last size is linear), up to a size that takes more than 30; then how many times
-             those of one plain template on the same text they are
-Each figure is the quickest of three runs, of 25 where a run takes less than half a second, and of one where it takes more than ten seconds; those
-of `growth` are of one run.
+             those of one plain template on the same text the last are
+Each other figure is the quickest of three runs, of 25 where a run takes less than half a second, and of one where it takes ten seconds or more;
+those of `growth` are of one run.
 """
 import dataclasses, math, os, subprocess, sys, tempfile
 

@@ -28,17 +28,18 @@ NAME = re.compile(r"(GNU )?(Affero |Lesser |Library or Lesser |Library |Free Doc
 HEAD = """\
 # The templates of the starter set
 
-Made by `python3 scripts/templates/listing.py`. After each name is a text that the template
-describes: its beginning, with all optional parts and with the text that is published in place of
-each variable. Then a real example: a project in whose files it was found, a file, and the words
-there (`scripts/trial/forms.py --examples`). Where the same words with another name or version are a
-template, too, and were found, that is the example. What the endings of names mean is in [the
+Made by `python3 scripts/templates/listing.py`. After a name, or a form of names, is mostly a text
+that the template describes: its beginning, with all optional parts and with the original text of
+each variable. Then mostly a real example: a project in whose files it was found, a file, and the
+first words there (`scripts/trial/forms.py --examples`); if none is known, mostly one of a template
+of the same words with another name or version. What the endings of names mean is in [the
 manual](../docs/MANUAL.md#where-templates-come-from).
 
-Each form was found in two unrelated projects. A form is a wording: with the names and versions that
+But for guards, each form of a text, notice or field was found in two projects. A guard keeps a
+shorter template from saying what is not so. A form is a wording: with the names and versions that
 fill it (`licensed under the terms of NAME version 2`, each kind of field) it is one form, and so is
-each name in its spelling (`scripts/trial/forms.py` counts). What no project, or one alone, is known
-to have is here where it is a guard: it keeps a shorter template from saying what is not so.
+each name in its spelling (`scripts/trial/forms.py` counts). Tags are made of a list of identifiers
+and of SPDX's grammar, found or not.
 """
 SECTIONS = [
     ("text", "Texts", "Whole texts, or as much of them as tells them from others."),
