@@ -88,7 +88,7 @@ module _ {X : Type 0} (changes : X → X → Type 0) where
       let (a, was) = slice_get-some old new k b m.count there in
       (a, was, m.before k a b (slice_get_within old k a was) was there)
 
--- numbers that stay at each place stay
+-- numbers that stay at each index stay
 same_numbers : {X : Type 0} (number : X → ℕ) (old new : List X) → length new ≡ length old
     → ((k : ℕ) (a b : X) → slice_get old k ≡ Some a → slice_get new k ≡ Some b → number b ≡ number a) → map number new ≡ map number old
 same_numbers number [] [] size same = refl

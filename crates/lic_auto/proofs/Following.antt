@@ -15,26 +15,26 @@ module _ (set : List Known) (runs : List TemplateRun) (run : TemplateRun) where
   -- one more run
   pub AreOver-push : AreOver set runs → ((known : Known) → slice_get set run.number ≡ Some known → IsOver run (words_of known))
       → AreOver set (runs ++ run ∷ [])
-  AreOver-push over new = λ place one known there is.
+  AreOver-push over new = λ index one known there is.
       ⊎_elim
-      (λ (before : slice_get runs place ≡ Some one). over place one known before is)
+      (λ (before : slice_get runs index ≡ Some one). over index one known before is)
       (λ (here : run ≡ one).
       subst (λ r. ∥ IsOver r (words_of known) ∥₁) here ∣ new known (ap (λ r. slice_get set r.number) here ∙ is) ∣₁)
-      (slice_get-push runs run place one there)
+      (slice_get-push runs run index one there)
 
   -- all of the runs and one more
   pub AreFollowing-push : (ts : List (List ℕ)) → AreFollowing set runs (run_numbers runs) ts
       → ((known : Known) → slice_get set run.number ≡ Some known → Follows run (words_of known) ts)
       → AreFollowing set (runs ++ run ∷ []) (run_numbers (runs ++ run ∷ [])) ts
   AreFollowing-push ts following new = record {
-    follow = λ place one known there is among.
+    follow = λ index one known there is among.
         ⊎_elim
-        (λ (before : slice_get runs place ≡ Some one).
-        following.follow place one known before is (has_number (λ (r : TemplateRun). r.number) runs place one before))
+        (λ (before : slice_get runs index ≡ Some one).
+        following.follow index one known before is (has_number (λ (r : TemplateRun). r.number) runs index one before))
         (λ (here : run ≡ one).
         subst (λ r. ∥ Follows r (words_of known) ts ∥₁) here ∣ new known (ap (λ (r : TemplateRun). slice_get set r.number) here ∙ is) ∣₁)
-        (slice_get-push runs run place one there);
-    left_out = λ place one there gone. absurd (gone (has_number (λ (r : TemplateRun). r.number) (runs ++ run ∷ []) place one there));
+        (slice_get-push runs run index one there);
+    left_out = λ index one there gone. absurd (gone (has_number (λ (r : TemplateRun). r.number) (runs ++ run ∷ []) index one there));
   }
 
 module _ (set : List Known) (old new : List TemplateRun) where
@@ -42,20 +42,20 @@ module _ (set : List Known) (old new : List TemplateRun) where
       (numbers : (a b : TemplateRun) → changes a b → b.number ≡ a.number) where
     -- the trees stay
     pub AreOver-changed : AreChanged changes old new → AreOver set old → AreOver set new
-    AreOver-changed m over = λ place b known there is.
-        let (a, was, change) = Changed-was changes old new m place b there in
-        ∥∥₁_map (over place a known was (ap (slice_get set) (sym (numbers a b change)) ∙ is))
+    AreOver-changed m over = λ index b known there is.
+        let (a, was, change) = Changed-was changes old new m index b there in
+        ∥∥₁_map (over index a known was (ap (slice_get set) (sym (numbers a b change)) ∙ is))
         (λ words. subst (λ t. HasWordsOf (core_of t) (words_of known)) (sym (trees a b change)) words)
 
   -- runs that began anew have taken no token
   pub AreFollowing-begun : (numbers : List ℕ) → AreChanged (BeginsAmong numbers) old new → AreOver set old → AreFollowing set new numbers []
   AreFollowing-begun numbers m over = record {
-    follow = λ place b known there is among.
-        let (a, was, change) = Changed-was (BeginsAmong numbers) old new m place b there in
-        ∥∥₁_map (over place a known was (ap (slice_get set) (sym change.number) ∙ is))
+    follow = λ index b known there is among.
+        let (a, was, change) = Changed-was (BeginsAmong numbers) old new m index b there in
+        ∥∥₁_map (over index a known was (ap (slice_get set) (sym change.number) ∙ is))
         (λ words. change.entered (words_of known) (subst (Contains numbers) change.number among) words);
-    left_out = λ place b there gone.
-        let (a, was, change) = Changed-was (BeginsAmong numbers) old new m place b there in
+    left_out = λ index b there gone.
+        let (a, was, change) = Changed-was (BeginsAmong numbers) old new m index b there in
         change.left_out (λ among. gone (subst (Contains numbers) (sym change.number) among));
   }
 
@@ -63,13 +63,13 @@ module _ (set : List Known) (old new : List TemplateRun) where
   pub AreFollowing-taken : (numbers : List ℕ) (token : List ℕ) (ts : List (List ℕ)) → AreChanged (Takes token) old new
       → AreFollowing set old numbers ts → AreFollowing set new numbers (ts ++ token ∷ [])
   AreFollowing-taken numbers token ts m following = record {
-    follow = λ place b known there is among.
-        let (a, was, change) = Changed-was (Takes token) old new m place b there in
-        ∥∥₁_map (following.follow place a known was (ap (slice_get set) (sym change.number) ∙ is) (subst (Contains numbers) change.number among))
+    follow = λ index b known there is among.
+        let (a, was, change) = Changed-was (Takes token) old new m index b there in
+        ∥∥₁_map (following.follow index a known was (ap (slice_get set) (sym change.number) ∙ is) (subst (Contains numbers) change.number among))
         (λ follows. change.follows (words_of known) ts follows);
-    left_out = λ place b there gone.
-        let (a, was, change) = Changed-was (Takes token) old new m place b there in
-        change.left_out (following.left_out place a was (λ among. gone (subst (Contains numbers) (sym change.number) among)));
+    left_out = λ index b there gone.
+        let (a, was, change) = Changed-was (Takes token) old new m index b there in
+        change.left_out (following.left_out index a was (λ among. gone (subst (Contains numbers) (sym change.number) among)));
   }
 
 -- the numbers of runs that began anew, or took a token, are as they were

@@ -17,35 +17,35 @@ use Rattle.lic_auto.specs.declared.template_backs.TemplateBack.{TemplateBack}
 use Rattle.lic_auto.proofs.Changing.{number_there, some_at}
 use Rattle.lic_auto.proofs.Ends.{untruncated_end}
 
--- the list has the numbers of the matchers before a place that are found, in rising order
+-- the list has the numbers of the matchers before an index that are found, in rising order
 pub record AreGathered (backs : List TemplateBack) (found : List ℕ) (end : ℕ) : Type 0 where
   pub rising : (bound : ℕ) → IsRising (back_numbers backs) bound → IsRising found bound
-  pub known : (n : ℕ) → Contains found n → (place : ℕ) × (place < end) × (get_or (back_numbers backs) place 0 ≡ n)
+  pub known : (n : ℕ) → Contains found n → (index : ℕ) × (index < end) × (get_or (back_numbers backs) index 0 ≡ n)
   pub exactly : (set : List Known) (ts : List (List ℕ)) → IsRising (back_numbers backs) (length set) → HaveTakenBackward set backs ts → (n : ℕ) → Contains found n ↔ IsFoundBefore set backs end ts n
 
 module _ (set : List Known) (backs : List TemplateBack) (ts : List (List ℕ)) (end n : ℕ) where
   Found-more : IsFoundBefore set backs end ts n → IsFoundBefore set backs (end + 1) ts n
-  Found-more (place, low, one, known) = (place, omega (arith, low), one, known)
+  Found-more (index, low, one, known) = (index, omega (arith, low), one, known)
 
-  -- what is found before the next place is found before this one, or at it
+  -- what is found before the next index is found before this one, or at it
   Found-cases : (s : TemplateBack) → slice_get backs end ≡ Some s → IsFoundBefore set backs (end + 1) ts n → IsFoundBefore set backs end ts n
       ⊎ ((s.number ≡ n) × ((known : Known) × (slice_get set n ≡ Some known) × DescribesEnd (reversed_expression (words_of known)) ts))
-  Found-cases s here (place, low, (one, there, number), known) =
+  Found-cases s here (index, low, (one, there, number), known) =
       ⊎_elim
-      (λ (before : place < end). inl (place, before, (one, there, number), known))
-      (λ (late : end ≤ place).
-      let same : place ≡ end = omega (arith, low, late) in
+      (λ (before : index < end). inl (index, before, (one, there, number), known))
+      (λ (late : end ≤ index).
+      let same : index ≡ end = omega (arith, low, late) in
       let is : s ≡ one = same_Some s one (sym here ∙ ap (slice_get backs) (sym same) ∙ there) in
       inr (ap (λ (x : TemplateBack). x.number) is ∙ number, known))
-      (cases_lt place end)
+      (cases_lt index end)
 
 module _ (backs : List TemplateBack) (found : List ℕ) (end : ℕ) (s : TemplateBack) (here : slice_get backs end ≡ Some s) (b : Bool)
     (answers : (e : Expression) (ts : List (List ℕ)) → HasReadEnds s.matcher e ts → IsTrue b ↔ DescribesEnd e ts) (g : AreGathered backs found end) where
-  -- the matcher at the place accepts nothing
+  -- the matcher at the index accepts nothing
   pub Gathered-skip : b ≡ false → AreGathered backs found (end + 1)
   Gathered-skip rejects = record {
     rising = g.rising;
-    known = λ n h. let (place, low, is) = g.known n h in (place, omega (arith, low), is);
+    known = λ n h. let (index, low, is) = g.known n h in (index, omega (arith, low), is);
     exactly = λ set ts up sought n. (
       λ h. Found-more set backs ts end n ((g.exactly set ts up sought n).0 h),
       λ f. ⊎_elim
@@ -63,10 +63,10 @@ module _ (backs : List TemplateBack) (found : List ℕ) (end : ℕ) (s : Templat
       record {
         rising = λ bound up.
             let less : (x : ℕ) → Contains found x → x < s.number = λ x h.
-            let (place, low, is) = g.known x h in omega (arith, rises (back_numbers backs) bound up place end low inside, is, at) in
+            let (index, low, is) = g.known x h in omega (arith, rises (back_numbers backs) bound up index end low inside, is, at) in
             IsRising-push found bound s.number bound (g.rising bound up) (omega arith) less (omega (arith, at, up.below end inside));
         known = λ n h. ⊎_elim
-            (λ before. let (place, low, is) = g.known n before in (place, omega (arith, low), is))
+            (λ before. let (index, low, is) = g.known n before in (index, omega (arith, low), is))
             (λ (same : s.number ≡ n). (end, omega arith, at ∙ same))
             (Contains-push_cases found s.number n h);
         exactly = λ set ts up sought n. (

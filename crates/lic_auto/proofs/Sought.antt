@@ -20,57 +20,57 @@ module _ (set : List Known) (backs : List TemplateBack) (matcher : TemplateBack)
   -- one more matcher
   pub AreReversed-push : AreReversed set backs → ((known : Known) → slice_get set matcher.number ≡ Some known → IsReversed matcher known)
       → AreReversed set (backs ++ matcher ∷ [])
-  AreReversed-push mirrors new = λ place one known there is.
+  AreReversed-push mirrors new = λ index one known there is.
       ⊎_elim
-      (λ (before : slice_get backs place ≡ Some one). mirrors place one known before is)
+      (λ (before : slice_get backs index ≡ Some one). mirrors index one known before is)
       (λ (here : matcher ≡ one).
       subst (λ s. ∥ IsReversed s known ∥₁) here ∣ new known (ap (λ s. slice_get set s.number) here ∙ is) ∣₁)
-      (slice_get-push backs matcher place one there)
+      (slice_get-push backs matcher index one there)
 
   pub HaveTakenBackward-push : (ts : List (List ℕ)) → HaveTakenBackward set backs ts
       → ((known : Known) → slice_get set matcher.number ≡ Some known → HasTakenBackward matcher known ts) → HaveTakenBackward set (backs ++ matcher ∷ []) ts
-  HaveTakenBackward-push ts sought new = λ place one known there is.
+  HaveTakenBackward-push ts sought new = λ index one known there is.
       ⊎_elim
-      (λ (before : slice_get backs place ≡ Some one). sought place one known before is)
+      (λ (before : slice_get backs index ≡ Some one). sought index one known before is)
       (λ (here : matcher ≡ one).
       subst (λ s. ∥ HasTakenBackward s known ts ∥₁) here ∣ new known (ap (λ s. slice_get set s.number) here ∙ is) ∣₁)
-      (slice_get-push backs matcher place one there)
+      (slice_get-push backs matcher index one there)
 
 module _ (set : List Known) (old new : List TemplateBack) where
   module _ (changes : TemplateBack → TemplateBack → Type 0) (trees : (a b : TemplateBack) → changes a b → tree_of b.matcher ≡ tree_of a.matcher)
       (numbers : (a b : TemplateBack) → changes a b → b.number ≡ a.number) where
     -- the trees stay
     pub AreReversed-changed : AreChanged changes old new → AreReversed set old → AreReversed set new
-    AreReversed-changed m mirrors = λ place b known there is.
-        let (a, was, change) = Changed-was changes old new m place b there in
-        ∥∥₁_map (mirrors place a known was (ap (slice_get set) (sym (numbers a b change)) ∙ is))
+    AreReversed-changed m mirrors = λ index b known there is.
+        let (a, was, change) = Changed-was changes old new m index b there in
+        ∥∥₁_map (mirrors index a known was (ap (slice_get set) (sym (numbers a b change)) ∙ is))
         (λ words. subst (λ t. HasWordsOf (core_of t) (reversed_expression (words_of known))) (sym (trees a b change)) words)
 
   -- matchers that began anew have taken no token
   pub HaveTakenBackward-anew : AreChanged BeginsAnew old new → AreReversed set old → HaveTakenBackward set new []
-  HaveTakenBackward-anew m mirrors = λ place b known there is.
-      let (a, was, change) = Changed-was BeginsAnew old new m place b there in
-      ∥∥₁_map (mirrors place a known was (ap (slice_get set) (sym change.number) ∙ is)) (λ words. change.seeks (reversed_expression (words_of known)) words)
+  HaveTakenBackward-anew m mirrors = λ index b known there is.
+      let (a, was, change) = Changed-was BeginsAnew old new m index b there in
+      ∥∥₁_map (mirrors index a known was (ap (slice_get set) (sym change.number) ∙ is)) (λ words. change.seeks (reversed_expression (words_of known)) words)
 
   -- matchers that took a token have taken it too
   pub HaveTakenBackward-taken : (token : List ℕ) (ts : List (List ℕ)) → AreChanged (TakesReversed token) old new → HaveTakenBackward set old ts
       → HaveTakenBackward set new (ts ++ reverse token ∷ [])
-  HaveTakenBackward-taken token ts m sought = λ place b known there is.
-      let (a, was, change) = Changed-was (TakesReversed token) old new m place b there in
-      ∥∥₁_map (sought place a known was (ap (slice_get set) (sym change.number) ∙ is)) (λ seeks. change.seeks (reversed_expression (words_of known)) ts seeks)
+  HaveTakenBackward-taken token ts m sought = λ index b known there is.
+      let (a, was, change) = Changed-was (TakesReversed token) old new m index b there in
+      ∥∥₁_map (sought index a known was (ap (slice_get set) (sym change.number) ∙ is)) (λ seeks. change.seeks (reversed_expression (words_of known)) ts seeks)
 
 -- what describes some end of the list from its end describes some beginning of the list
 module _ (set : List Known) (backs : List TemplateBack) (ts : List (List ℕ)) (n : ℕ) where
   pub live-found : IsFoundBefore set backs (length backs) (reversed_tokens ts) n → Contains (back_numbers backs) n × IsLive set ts n
-  live-found (place, low, (one, there, number), (known, is, described)) =
-      let (inside, at) = number_there (λ (s : TemplateBack). s.number) backs place one there in
+  live-found (index, low, (one, there, number), (known, is, described)) =
+      let (inside, at) = number_there (λ (s : TemplateBack). s.number) backs index one there in
       let begins = beginning-from_end (words_of known) ts described in
-      ((place, inside, get_or_default (back_numbers backs) place n 0 inside ∙ at ∙ number), (known, is, begins.0, begins.1))
+      ((index, inside, get_or_default (back_numbers backs) index n 0 inside ∙ at ∙ number), (known, is, begins.0, begins.1))
 
   pub found-live : Contains (back_numbers backs) n × IsLive set ts n → IsFoundBefore set backs (length backs) (reversed_tokens ts) n
-  found-live ((place, inside, at), (known, is, m, described)) =
-      let (one, there, number) = at_number (λ (s : TemplateBack). s.number) backs place n inside at in
-      (place, slice_get_within backs place one there, (one, there, number), (known, is, end-from_beginning (words_of known) ts m described))
+  found-live ((index, inside, at), (known, is, m, described)) =
+      let (one, there, number) = at_number (λ (s : TemplateBack). s.number) backs index n inside at in
+      (index, slice_get_within backs index one there, (one, there, number), (known, is, end-from_beginning (words_of known) ts m described))
 
 -- no template describes a beginning of no tokens
 pub none_live : (numbers : List ℕ) (set : List Known) (n : ℕ) → Contains [] n ↔ (Contains numbers n × IsLive set [] n)

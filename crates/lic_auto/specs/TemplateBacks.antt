@@ -23,12 +23,12 @@ HasTakenBackward one known ts = HasReadEnds one.matcher (reversed_expression (wo
 
 -- each matcher's tree has the words of its template, read from their ends
 abbrev pub AreReversed : List Known → List TemplateBack → Type 0
-AreReversed set backs = (place : ℕ) (one : TemplateBack) (known : Known) → slice_get backs place ≡ Some one
+AreReversed set backs = (index : ℕ) (one : TemplateBack) (known : Known) → slice_get backs index ≡ Some one
     → slice_get set one.number ≡ Some known → ∥ IsReversed one known ∥₁
 
 -- each matcher has taken the tokens
 abbrev pub HaveTakenBackward : List Known → List TemplateBack → List (List ℕ) → Type 0
-HaveTakenBackward set backs ts = (place : ℕ) (one : TemplateBack) (known : Known) → slice_get backs place ≡ Some one
+HaveTakenBackward set backs ts = (index : ℕ) (one : TemplateBack) (known : Known) → slice_get backs index ≡ Some one
     → slice_get set one.number ≡ Some known → ∥ HasTakenBackward one known ts ∥₁
 
 -- the matcher begins anew
@@ -43,8 +43,8 @@ pub record TakesReversed (token : List ℕ) (old new : TemplateBack) : Type 0 wh
   pub tree : tree_of new.matcher ≡ tree_of old.matcher
   pub seeks : (e : Expression) (ts : List (List ℕ)) → HasReadEnds old.matcher e ts → HasReadEnds new.matcher e (ts ++ reverse token ∷ [])
 
--- a matcher before a place has this number, and its template describes some end of the tokens
+-- a matcher before an index has this number, and its template describes some end of the tokens
 abbrev pub IsFoundBefore : List Known → List TemplateBack → ℕ → List (List ℕ) → ℕ → Type 0
-IsFoundBefore set backs end ts number = (place : ℕ) × (place < end)
-    × ((one : TemplateBack) × (slice_get backs place ≡ Some one) × (one.number ≡ number))
+IsFoundBefore set backs end ts number = (index : ℕ) × (index < end)
+    × ((one : TemplateBack) × (slice_get backs index ≡ Some one) × (one.number ≡ number))
     × ((known : Known) × (slice_get set number ≡ Some known) × DescribesEnd (reversed_expression (words_of known)) ts)

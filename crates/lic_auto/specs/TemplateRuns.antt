@@ -45,12 +45,12 @@ pub record Takes (token : List ℕ) (old new : TemplateRun) : Type 0 where
 
 -- each run is over a tree with the words of its template
 abbrev pub AreOver : List Known → List TemplateRun → Type 0
-AreOver set runs = (place : ℕ) (run : TemplateRun) (known : Known) → slice_get runs place ≡ Some run
+AreOver set runs = (index : ℕ) (run : TemplateRun) (known : Known) → slice_get runs index ≡ Some run
     → slice_get set run.number ≡ Some known → ∥ IsOver run (words_of known) ∥₁
 
 -- the runs of these numbers have taken the tokens, and the others are not live
 pub record AreFollowing (set : List Known) (runs : List TemplateRun) (numbers : List ℕ) (ts : List (List ℕ)) : Type 0 where
-  pub follow : (place : ℕ) (run : TemplateRun) (known : Known) → slice_get runs place ≡ Some run
+  pub follow : (index : ℕ) (run : TemplateRun) (known : Known) → slice_get runs index ≡ Some run
       → slice_get set run.number ≡ Some known → Contains numbers run.number → ∥ Follows run (words_of known) ts ∥₁
-  pub left_out : (place : ℕ) (run : TemplateRun) → slice_get runs place ≡ Some run
+  pub left_out : (index : ℕ) (run : TemplateRun) → slice_get runs index ≡ Some run
       → ¬ (Contains numbers run.number) → run.is_live ≡ false

@@ -80,7 +80,7 @@ same_blanked from to from' to' known same =
     ]) in
     ap₂ (λ w m. record known { word = w; mark = m }) word mark
 
--- from a later place on, or up to an earlier one
+-- from a later offset on, or up to an earlier one
 later_from : (from mid to k : ℕ) → from ≤ mid → (k < from) ⊎ (mid ≤ k) → is_within mid to k ≡ is_within from to k
 later_from from mid to k order (inl low) = within_before mid to k (omega arith) ∙ sym (within_before from to k low)
 later_from from mid to k order (inr high) = ap (λ t. t && nat_lt k to) (le-leb mid k high ∙ sym (le-leb from k (omega arith)))
@@ -98,7 +98,7 @@ module _ (line : List ℕ) (at : ℕ) (known : Known) (cut : LineCut) (front tai
   first = at + (cut.lead + cut.item)
 
   blank_at : (k : ℕ) → at ≤ k → is_whitespace (slice_index line (k - at)) ≡ true → is_dark known k ≡ false
-  blank_at k low white = let place : k ≡ at + (k - at) = omega arith in ap (is_dark known) place ∙ blank.spaces (k - at) white
+  blank_at k low white = let offset : k ≡ at + (k - at) = omega arith in ap (is_dark known) offset ∙ blank.spaces (k - at) white
 
   lead_without_spaces : blanked (at + front) first known ≡ blanked at first known
   lead_without_spaces = same_blanked (at + front) first at first known (λ k. elim (cases_lt k at) [

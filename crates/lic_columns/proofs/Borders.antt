@@ -9,18 +9,18 @@ use Rattle.lic_kind.specs.Kinds.{kind_of, is_word_kind}
 use Rattle.lic_letters.specs.Bytes.{letter, is_word, is_mark, is_high}
 use Rattle.lic_columns.specs.Cells.{Blank, AreCells, cells_of, firsts, lasts, spans, starts_of, ends_of}
 use Rattle.lic_columns.specs.Masks.{flag_at, flag_before}
-use Rattle.lic_columns.specs.Places.{places}
+use Rattle.lic_columns.specs.Offsets.{offsets}
 use Rattle.lic_columns.proofs.AsciiLetters.{letter_low}
 use Rattle.lic_columns.proofs.CellLemmas.{starts_are, ends_are, begins_at, ends}
 
--- ---- places of flags
+-- ---- offsets of flags
 
-places_at : (at : ℕ) (flags : List Bool) (i : ℕ) → i < length (places at flags)
-    → (k : ℕ) × (get_or (places at flags) i 0 ≡ at + k) × (flag_at flags k ≡ true)
-places_at at [] i lt = absurd (omega arith)
-places_at at (true ∷ flags) zero lt = (0, omega arith, refl)
-places_at at (true ∷ flags) (suc i) lt = let more = places_at (suc at) flags i (omega (arith, lt)) in (suc more.0, omega (arith, more.1), more.2)
-places_at at (false ∷ flags) i lt = let more = places_at (suc at) flags i lt in (suc more.0, omega (arith, more.1), more.2)
+offsets_at : (at : ℕ) (flags : List Bool) (i : ℕ) → i < length (offsets at flags)
+    → (k : ℕ) × (get_or (offsets at flags) i 0 ≡ at + k) × (flag_at flags k ≡ true)
+offsets_at at [] i lt = absurd (omega arith)
+offsets_at at (true ∷ flags) zero lt = (0, omega arith, refl)
+offsets_at at (true ∷ flags) (suc i) lt = let more = offsets_at (suc at) flags i (omega (arith, lt)) in (suc more.0, omega (arith, more.1), more.2)
+offsets_at at (false ∷ flags) i lt = let more = offsets_at (suc at) flags i lt in (suc more.0, omega (arith, more.1), more.2)
 
 -- ---- bytes of ASCII
 
@@ -122,15 +122,15 @@ module _ (spelled : List ℕ) where
       starts_between at i lt =
           let cells = cells_of word mark joined in
           let is = sym (starts_are at cells) in
-          let found = places_at at (firsts Blank cells) i (omega (arith, lt, ap length is)) in
-          let place : found.0 ≡ get_or (starts_of (spans at cells)) i 0 - at = omega (arith, found.1, ap (λ l. get_or l i 0) is) in
-          subst (IsCharBoundary letters) place (begins found.0 found.2)
+          let found = offsets_at at (firsts Blank cells) i (omega (arith, lt, ap length is)) in
+          let offset : found.0 ≡ get_or (starts_of (spans at cells)) i 0 - at = omega (arith, found.1, ap (λ l. get_or l i 0) is) in
+          subst (IsCharBoundary letters) offset (begins found.0 found.2)
 
       pub ends_between : (at i : ℕ) → i < length (ends_of (spans at (cells_of word mark joined)))
           → IsCharBoundary letters (get_or (ends_of (spans at (cells_of word mark joined))) i 0 - at)
       ends_between at i lt =
           let cells = cells_of word mark joined in
           let is = sym (ends_are at cells) in
-          let found = places_at (suc at) (lasts cells) i (omega (arith, lt, ap length is)) in
-          let place : suc found.0 ≡ get_or (ends_of (spans at cells)) i 0 - at = omega (arith, found.1, ap (λ l. get_or l i 0) is) in
-          subst (IsCharBoundary letters) place (stops found.0 found.2)
+          let found = offsets_at (suc at) (lasts cells) i (omega (arith, lt, ap length is)) in
+          let offset : suc found.0 ≡ get_or (ends_of (spans at cells)) i 0 - at = omega (arith, found.1, ap (λ l. get_or l i 0) is) in
+          subst (IsCharBoundary letters) offset (stops found.0 found.2)

@@ -1,10 +1,10 @@
--- The tokens of cells by the places where they begin and end.
+-- The tokens of cells by the offsets where they begin and end.
 use Rattle.std.proofs.Common.{◌≡◌, ℕ, zero, suc, Bool, true, false, not, ◌&&◌, ◌||◌, List, [], ◌∷◌, length, get_or, refl, ap, sym, ◌∙◌, inl, inr, arith, cond}
 use Rattle.std.proofs.lemmas.Bool.{cases_lt}
 use Rattle.std.proofs.lemmas.List.{get_or_past}
 use Rattle.std.proofs.lemmas.List.FromFn.{get_or-map-range_with_len, length-map-range_with_len}
 use Rattle.lic_columns.specs.Masks.{flag_at, flag_before}
-use Rattle.lic_columns.specs.Places.{places}
+use Rattle.lic_columns.specs.Offsets.{offsets}
 use Rattle.lic_columns.specs.Cells.{Cell, Blank, Word, Mark, Joined, cell_of, cells_of, is_blank, continues, Span, from_here, next_cell, with_cell, spans, starts_of, ends_of, is_first, is_last, firsts, lasts, AreCells}
 
 -- ---- where tokens end
@@ -13,14 +13,14 @@ ends_from_here : (at : ℕ) (ss : List Span) → ends_of (from_here at ss) ≡ e
 ends_from_here at [] = refl
 ends_from_here at (s ∷ ss) = refl
 
-ends_with : (at : ℕ) (b more : Bool) (ss : List Span) (flags : List Bool) → places (suc (suc at)) flags ≡ ends_of ss
-    → places (suc at) ((not b && not more) ∷ flags) ≡ ends_of (with_cell at b more ss)
+ends_with : (at : ℕ) (b more : Bool) (ss : List Span) (flags : List Bool) → offsets (suc (suc at)) flags ≡ ends_of ss
+    → offsets (suc at) ((not b && not more) ∷ flags) ≡ ends_of (with_cell at b more ss)
 ends_with at true more ss flags rest = rest
 ends_with at false true ss flags rest = rest ∙ sym (ends_from_here at ss)
 ends_with at false false ss flags rest = ap (λ l. suc at ∷ l) rest
 
--- the places after those at which tokens end
-pub ends_are : (at : ℕ) (cells : List Cell) → places (suc at) (lasts cells) ≡ ends_of (spans at cells)
+-- the offsets after those at which tokens end
+pub ends_are : (at : ℕ) (cells : List Cell) → offsets (suc at) (lasts cells) ≡ ends_of (spans at cells)
 ends_are at [] = refl
 ends_are at (c ∷ cells) = ends_with at (is_blank c) (continues c (next_cell cells)) (spans (suc at) cells) (lasts cells) (ends_are (suc at) cells)
 
@@ -31,13 +31,13 @@ starts_from_here at x [] rest e = absurd cc
 starts_from_here at x (s ∷ ss) rest e = let others : starts_of ss ≡ rest = cc in ap (λ l. at ∷ l) others
 
 starts_with : (at : ℕ) (b on more : Bool) (ss : List Span) (flags : List Bool) → (b ≡ true → on ≡ false) → (b ≡ true → more ≡ false)
-    → starts_of ss ≡ cond more (suc at ∷ places (suc at) flags) (places (suc at) flags)
-    → starts_of (with_cell at b more ss) ≡ cond on (at ∷ places at ((not b && not on) ∷ flags)) (places at ((not b && not on) ∷ flags))
+    → starts_of ss ≡ cond more (suc at ∷ offsets (suc at) flags) (offsets (suc at) flags)
+    → starts_of (with_cell at b more ss) ≡ cond on (at ∷ offsets at ((not b && not on) ∷ flags)) (offsets at ((not b && not on) ∷ flags))
 starts_with at true true more ss flags h k rest = absurd (let e : true ≡ false = h refl in cc)
 starts_with at true false true ss flags h k rest = absurd (let e : true ≡ false = k refl in cc)
 starts_with at true false false ss flags h k rest = rest
-starts_with at false true true ss flags h k rest = starts_from_here at (suc at) ss (places (suc at) flags) rest
-starts_with at false false true ss flags h k rest = starts_from_here at (suc at) ss (places (suc at) flags) rest
+starts_with at false true true ss flags h k rest = starts_from_here at (suc at) ss (offsets (suc at) flags) rest
+starts_with at false false true ss flags h k rest = starts_from_here at (suc at) ss (offsets (suc at) flags) rest
 starts_with at false true false ss flags h k rest = ap (λ l. at ∷ l) rest
 starts_with at false false false ss flags h k rest = ap (λ l. at ∷ l) rest
 
@@ -57,17 +57,17 @@ blank_after before Mark e = refl
 blank_after before Joined e = absurd cc
 
 starts_after : (before : Cell) (at : ℕ) (cells : List Cell)
-    → starts_of (spans at cells) ≡ cond (continues before (next_cell cells)) (at ∷ places at (firsts before cells)) (places at (firsts before cells))
+    → starts_of (spans at cells) ≡ cond (continues before (next_cell cells)) (at ∷ offsets at (firsts before cells)) (offsets at (firsts before cells))
 starts_after before at [] = refl
 starts_after before at (c ∷ cells) =
     starts_with at (is_blank c) (continues before c) (continues c (next_cell cells)) (spans (suc at) cells) (firsts c cells)
     (blank_after before c) (blank_before c (next_cell cells)) (starts_after c (suc at) cells)
 
--- the places at which tokens begin
-pub starts_are : (at : ℕ) (cells : List Cell) → places at (firsts Blank cells) ≡ starts_of (spans at cells)
+-- the offsets at which tokens begin
+pub starts_are : (at : ℕ) (cells : List Cell) → offsets at (firsts Blank cells) ≡ starts_of (spans at cells)
 starts_are at cells =
     sym (starts_after Blank at cells
-    ∙ ap (λ t. cond t (at ∷ places at (firsts Blank cells)) (places at (firsts Blank cells))) (blank_before Blank (next_cell cells) refl))
+    ∙ ap (λ t. cond t (at ∷ offsets at (firsts Blank cells)) (offsets at (firsts Blank cells))) (blank_before Blank (next_cell cells) refl))
 
 -- ---- each cell by its neighbours
 

@@ -165,15 +165,15 @@ module _ (cut : LineCut) (line : List SourceChar) (within : cut.lead + cut.item 
       )
 
   -- the line between others
-  pub edges_are : (at : ℕ) (text : List ℕ) (front following : List Cell) (known : Known) (place end : ℕ) → place ≡ length front → end ≡ length front + length line
+  pub edges_are : (at : ℕ) (text : List ℕ) (front following : List Cell) (known : Known) (offset end : ℕ) → offset ≡ length front → end ≡ length front + length line
       → IsOfCells at text (front ++ (map cell_of line ++ following)) known
-      → IsOfCells at text (front ++ (standing cut line ++ following)) (edges_blanked cut place end known)
-  edges_are at text front following known place end is_place is_end is =
+      → IsOfCells at text (front ++ (standing cut line ++ following)) (edges_blanked cut offset end known)
+  edges_are at text front following known offset end is_offset is_end is =
       let whole : front ++ (map cell_of line ++ following) ≡ front ++ (taken_first ++ (middle ++ (taken_last ++ following))) =
       ap (λ l. front ++ (l ++ following)) in_three
       ∙ ap (λ l. front ++ l) (append_assoc taken_first (middle ++ taken_last) following ∙ ap (λ l. taken_first ++ l) (append_assoc middle taken_last following)) in
-      let once : IsOfCells at text (front ++ (spaces (length taken_first) ++ (middle ++ (taken_last ++ following)))) (blanked place (place + first) known) =
-      blank_middle at text front taken_first (middle ++ (taken_last ++ following)) known place (place + first) is_place (omega (arith, is_place, length_first))
+      let once : IsOfCells at text (front ++ (spaces (length taken_first) ++ (middle ++ (taken_last ++ following)))) (blanked offset (offset + first) known) =
+      blank_middle at text front taken_first (middle ++ (taken_last ++ following)) known offset (offset + first) is_offset (omega (arith, is_offset, length_first))
       (subst (λ l. IsOfCells at text l known) whole is) in
       let before = front ++ (spaces (length taken_first) ++ middle) in
       let parted : front ++ (spaces (length taken_first) ++ (middle ++ (taken_last ++ following))) ≡ before ++ (taken_last ++ following) =
@@ -188,16 +188,16 @@ module _ (cut : LineCut) (line : List SourceChar) (within : cut.lead + cut.item 
         length_first,
         length_middle,
       ) in
-      let twice : IsOfCells at text (before ++ (spaces (length taken_last) ++ following)) (edges_blanked cut place end known) =
-      blank_middle at text before taken_last following (blanked place (place + first) known) (end - cut.tail) end
-      (omega (arith, size, is_place, is_end, length-drop first line)) (omega (arith, size, is_place, is_end, length-drop first line, length_last))
-      (subst (λ l. IsOfCells at text l (blanked place (place + first) known)) parted once) in
+      let twice : IsOfCells at text (before ++ (spaces (length taken_last) ++ following)) (edges_blanked cut offset end known) =
+      blank_middle at text before taken_last following (blanked offset (offset + first) known) (end - cut.tail) end
+      (omega (arith, size, is_offset, is_end, length-drop first line)) (omega (arith, size, is_offset, is_end, length-drop first line, length_last))
+      (subst (λ l. IsOfCells at text l (blanked offset (offset + first) known)) parted once) in
       let whole_again : before ++ (spaces (length taken_last) ++ following) ≡ front ++ (standing cut line ++ following) =
       ap₂ (λ m l. (front ++ (spaces m ++ middle)) ++ (spaces l ++ following)) length_first length_last
       ∙ ap (λ l. (front ++ (l ++ middle)) ++ (spaces cut.tail ++ following)) (sym (spaces-add cut.lead cut.item))
       ∙ append_assoc front ((spaces cut.lead ++ spaces cut.item) ++ middle) (spaces cut.tail ++ following)
       ∙ ap (λ l. front ++ l) (sym (append_assoc ((spaces cut.lead ++ spaces cut.item) ++ middle) (spaces cut.tail) following)) in
-      subst (λ l. IsOfCells at text l (edges_blanked cut place end known)) whole_again twice
+      subst (λ l. IsOfCells at text l (edges_blanked cut offset end known)) whole_again twice
 
 -- ---- as many blanks as bytes are as good as one
 

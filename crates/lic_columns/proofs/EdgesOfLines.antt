@@ -131,38 +131,38 @@ cut_within rules line cut is =
 -- ---- line by line
 
 module _ (rules : LineRules) (at : ℕ) (text : List ℕ) where
-  lines_are : (lines : List (List ℕ)) (front : List Cell) (place : ℕ) (known : Known) → place ≡ length front → IsAscii (joined lines)
-      → IsOfCells at text (front ++ map cell_of (placed (at + place) (joined lines))) known
-      → IsOfCells at text (front ++ flat_map (standing_line rules) (placed_lines (at + place) lines)) (lines_blanked rules place lines known)
-  lines_are [] front place known here ascii is = is
-  lines_are (line ∷ lines) front place known here ascii is =
+  lines_are : (lines : List (List ℕ)) (front : List Cell) (offset : ℕ) (known : Known) → offset ≡ length front → IsAscii (joined lines)
+      → IsOfCells at text (front ++ map cell_of (placed (at + offset) (joined lines))) known
+      → IsOfCells at text (front ++ flat_map (standing_line rules) (placed_lines (at + offset) lines)) (lines_blanked rules offset lines known)
+  lines_are [] front offset known here ascii is = is
+  lines_are (line ∷ lines) front offset known here ascii is =
       let rest = joined lines in
-      let source = placed (at + place) line in
-      let following = placed (at + place + length line) rest in
+      let source = placed (at + offset) line in
+      let following = placed (at + offset + length line) rest in
       let cut = cut_of rules whole_line line in
-      let blanked_here : Known = edges_blanked cut place (place + length line) known in
-      let long : length source ≡ length line = length-placed (at + place) line in
+      let blanked_here : Known = edges_blanked cut offset (offset + length line) known in
+      let long : length source ≡ length line = length-placed (at + offset) line in
       let fit : cut.lead + cut.item + cut.tail ≤ length source = omega (arith, long, cut_within rules line cut refl) in
-      let parts : map cell_of (placed (at + place) (line ++ rest)) ≡ map cell_of source ++ map cell_of following =
-      ap (map cell_of) (placed-append (at + place) line rest ascii) ∙ map-append cell_of source following in
+      let parts : map cell_of (placed (at + offset) (line ++ rest)) ≡ map cell_of source ++ map cell_of following =
+      ap (map cell_of) (placed-append (at + offset) line rest ascii) ∙ map-append cell_of source following in
       let next = front ++ standing cut source in
-      let end : place + length line ≡ length next =
+      let end : offset + length line ≡ length next =
       omega (arith, here, long, length-append front (standing cut source), length-standing cut source fit) in
-      let sum : at + place + length line ≡ at + (place + length line) = omega arith in
+      let sum : at + offset + length line ≡ at + (offset + length line) = omega arith in
       let this : IsOfCells at text (front ++ (standing cut source ++ map cell_of following)) blanked_here =
-      edges_are cut source fit at text front (map cell_of following) known place (place + length line) here (omega (arith, here, long))
+      edges_are cut source fit at text front (map cell_of following) known offset (offset + length line) here (omega (arith, here, long))
       (subst (λ l. IsOfCells at text (front ++ l) known) parts is) in
-      let those : IsOfCells at text (next ++ map cell_of (placed (at + (place + length line)) rest)) blanked_here =
+      let those : IsOfCells at text (next ++ map cell_of (placed (at + (offset + length line)) rest)) blanked_here =
       subst (λ l. IsOfCells at text l blanked_here)
       (sym (append_assoc front (standing cut source) (map cell_of following)) ∙ ap (λ n. next ++ map cell_of (placed n rest)) sum) this in
-      let same : next ++ flat_map (standing_line rules) (placed_lines (at + (place + length line)) lines)
-      ≡ front ++ (standing_line rules source ++ flat_map (standing_line rules) (placed_lines (at + place + length line) lines)) =
-      append_assoc front (standing cut source) (flat_map (standing_line rules) (placed_lines (at + (place + length line)) lines))
-      ∙ ap (λ l. front ++ (standing (cut_of rules whole_line l) source ++ flat_map (standing_line rules) (placed_lines (at + (place + length line)) lines)))
-      (sym (chars_of-placed (at + place) line))
+      let same : next ++ flat_map (standing_line rules) (placed_lines (at + (offset + length line)) lines)
+      ≡ front ++ (standing_line rules source ++ flat_map (standing_line rules) (placed_lines (at + offset + length line) lines)) =
+      append_assoc front (standing cut source) (flat_map (standing_line rules) (placed_lines (at + (offset + length line)) lines))
+      ∙ ap (λ l. front ++ (standing (cut_of rules whole_line l) source ++ flat_map (standing_line rules) (placed_lines (at + (offset + length line)) lines)))
+      (sym (chars_of-placed (at + offset) line))
       ∙ ap (λ n. front ++ (standing_line rules source ++ flat_map (standing_line rules) (placed_lines n lines))) (sym sum) in
-      subst (λ l. IsOfCells at text l (lines_blanked rules (place + length line) lines blanked_here)) same
-      (lines_are lines next (place + length line) blanked_here end (ascii_rest line rest ascii) those)
+      subst (λ l. IsOfCells at text l (lines_blanked rules (offset + length line) lines blanked_here)) same
+      (lines_are lines next (offset + length line) blanked_here end (ascii_rest line rest ascii) those)
 
 pub lines_tokens_are : (rules : LineRules) (at : ℕ) (text : List ℕ) → IsAscii text
     → span_tokens true at at (known_of text).letters (text_spans rules.separators at text (lines_blanked rules 0 (byte_lines text) (known_of text)))
@@ -216,7 +216,7 @@ module _ {A : Type 0} (ends : A → Bool) where
       cond-false (ends x) _ _ (inside 0 (omega arith))
       ∙ ap (onto_first x) (first_part (y ∷ xs) m d (omega arith) (λ i lt. inside (suc i) (omega arith)) (λ lt. last (omega arith)))
 
--- from this place to that is one line of the text
+-- from this offset to that is one line of the text
 pub record IsNextLine (text : List ℕ) (at end : ℕ) : Type 0 where
   pub some : at < end
   pub within : end ≤ length text

@@ -1,4 +1,4 @@
--- The search for a place, column by column.
+-- The search for an offset, column by column.
 use Rattle.std.proofs.Common.{◌≡◌, ℕ, suc, ◌+◌, ◌-◌, ◌*◌, ◌/◌, ◌%◌, ◌^◌, ◌<◌, ◌≤◌, Bool, true, false, not, ◌&&◌, refl, ap, sym, ◌∙◌, arith, inl, inr, w64, ltb, leb, lt-ltb, le-leb, leb-true, eq-eqb}
 use Rattle.std.proofs.lemmas.Bool.{cases_lt, and_parts, le-ltb, lt-leb}
 use Rattle.std.proofs.lemmas.Nat.Bits.{bit_at-trailing_zeros}
@@ -7,7 +7,7 @@ use Rattle.std.specs.Int.{bit_not, trailing_zeros}
 use Rattle.lic_letters.proofs.BitLemmas.{has_bit_and, has_bit_not, has_bit_below, has_bit_zero}
 use Rattle.lic_trim.specs.PieceLengths.{has_bit}
 
--- The search has come to column k: of the places of the range before it none is wanted, and the mask has a bit at each of its own that is wanted
+-- The search has come to column k: of the offsets of the range before it none is wanted, and the mask has a bit at each of its own that is wanted
 -- and not before the range.
 pub record Looks (wanted : ℕ → Bool) (from to k mask : ℕ) : Type 0 where
   pub begun : from / 64 ≤ k
@@ -46,15 +46,15 @@ module _ (wanted : ℕ → Bool) (from to : ℕ) (order : from ≤ to) where
         (has_bit_not low i low_fits small ∙ ap not (ap (λ m. has_bit m i) is_low ∙ has_bit_below (from % 64) i) ∙ not_low (from % 64) i ∙ same);
   }
 
-  -- a mask with no bit has no place that is wanted
+  -- a mask with no bit has no offset that is wanted
   none_here : (k mask : ℕ) → Looks wanted from to k mask → mask ≡ 0 → (b : ℕ) → from ≤ b → b < suc k * 64 → wanted b ≡ false
   none_here k mask l none b after before = elim (cases_lt b (k * 64)) [
     | inl low ↦ l.passed b after low
     | inr high ↦
         let i : ℕ = b - k * 64 in
-        let place : k * 64 + i ≡ b = omega arith in
+        let offset : k * 64 + i ≡ b = omega arith in
         sym (and_true (wanted b) (leb from b) (le-leb from b after))
-        ∙ ap (λ j. wanted j && leb from j) (sym place) ∙ sym (l.bits i (omega arith)) ∙ ap (λ m. has_bit m i) none ∙ has_bit_zero i
+        ∙ ap (λ j. wanted j && leb from j) (sym offset) ∙ sym (l.bits i (omega arith)) ∙ ap (λ m. has_bit m i) none ∙ has_bit_zero i
   ]
 
   pub Looks-more : (k mask next : ℕ) → Looks wanted from to k mask → mask ≡ 0 → k < to / 64 → next < 2 ^ 64
@@ -77,11 +77,11 @@ module _ (wanted : ℕ → Bool) (from to : ℕ) (order : from ≤ to) where
         let t = bit_at-trailing_zeros w64 mask some l.fits in
         and_parts _ _ (sym (l.bits (trailing_zeros w64 mask) t.0) ∙ eq-eqb _ 1 t.1)
 
-    pub place_after : from ≤ k * 64 + trailing_zeros w64 mask
-    place_after = leb-true _ _ lowest_is.1
+    pub offset_after : from ≤ k * 64 + trailing_zeros w64 mask
+    offset_after = leb-true _ _ lowest_is.1
 
-    pub place_wanted : wanted (k * 64 + trailing_zeros w64 mask) ≡ true
-    place_wanted = lowest_is.0
+    pub offset_wanted : wanted (k * 64 + trailing_zeros w64 mask) ≡ true
+    offset_wanted = lowest_is.0
 
     pub none_before : (b : ℕ) → from ≤ b → b < k * 64 + trailing_zeros w64 mask → wanted b ≡ false
     none_before b after before = elim (cases_lt b (k * 64)) [
@@ -89,8 +89,8 @@ module _ (wanted : ℕ → Bool) (from to : ℕ) (order : from ≤ to) where
       | inr high ↦
           let t = bit_at-trailing_zeros w64 mask some l.fits in
           let i : ℕ = b - k * 64 in
-          let place : k * 64 + i ≡ b = omega arith in
+          let offset : k * 64 + i ≡ b = omega arith in
           let less : i < trailing_zeros w64 mask = omega arith in
           sym (and_true (wanted b) (leb from b) (le-leb from b after))
-          ∙ ap (λ j. wanted j && leb from j) (sym place) ∙ sym (l.bits i (omega (arith, t.0, less))) ∙ ap (λ x. x == 1) (t.2 i less)
+          ∙ ap (λ j. wanted j && leb from j) (sym offset) ∙ sym (l.bits i (omega (arith, t.0, less))) ∙ ap (λ x. x == 1) (t.2 i less)
     ]

@@ -211,9 +211,9 @@ module _ (n from to : ℕ) (old new : List ℕ) (rest : (k : ℕ) → n ≤ k �
       (λ k within. flag-is n new rest_cleared k ∙ is.bits k
       ∙ ap (λ t. t && not (is_within from to k)) (sym (flag-is n old rest k)) ∙ sym (flag_at-cleared from to (flags_in n old) k))
 
--- ---- a list that is made of a test at each of its places
+-- ---- a list that is made of a test at each of its offsets
 
--- a list that is made of a test at each of the first n places
+-- a list that is made of a test at each of the first n offsets
 abbrev pub listed : (ℕ → Bool) → ℕ → List Bool
 listed p n = map p (range_with_len 0 n)
 

@@ -13,7 +13,7 @@ use Rattle.lic_columns.specs.PlainLines.{ArePlainLines, HaveFirstTokens}
 use Rattle.lic_letters.specs.Simple.{IsSpelled, all_in_place}
 use Rattle.lic_columns.specs.SpanTokens.{span_tokens, spans_by}
 use Rattle.lic_columns.specs.Tokens.{kept_marks, text_spans}
-use Rattle.lic_letters.proofs.InPlace.{places_size}
+use Rattle.lic_letters.proofs.InPlace.{offsets_size}
 use Rattle.lic_columns.proofs.Borders.{starts_between, ends_between}
 use Rattle.lic_columns.proofs.CellLemmas.{length-cells}
 use Rattle.lic_columns.proofs.ColumnLemmas.{kept_is_mark}
@@ -29,7 +29,7 @@ module _ (text spelled : List ℕ) (is : IsSpelled text spelled) where
   source = chars text
 
   pub as_long : length spelled ≡ length text
-  as_long = ap length is.is ∙ sym (places_size source is.simple) ∙ ap length (encodes-chars text is.utf8)
+  as_long = ap length is.is ∙ sym (offsets_size source is.simple) ∙ ap length (encodes-chars text is.utf8)
 
   pub is_text : IsText (length text) (known_of spelled)
   is_text = subst (λ n. IsText n (known_of spelled)) as_long (IsText-known_of spelled)
@@ -80,17 +80,17 @@ module _ (text spelled : List ℕ) (is : IsSpelled text spelled) where
 
     begins : (i : ℕ) → i < length starts → IsCharBoundary letters (slice_index starts i - at)
     begins i lt =
-        let place : get_or (starts_of found) i 0 - at ≡ slice_index starts i - at = ap (λ l. get_or l i 0 - at) (sym starts_are) in
+        let offset : get_or (starts_of found) i 0 - at ≡ slice_index starts i - at = ap (λ l. get_or l i 0 - at) (sym starts_are) in
         subst (λ l. IsCharBoundary l (slice_index starts i - at)) (sym letters_are)
-        (subst (IsCharBoundary (map letter spelled)) place
+        (subst (IsCharBoundary (map letter spelled)) offset
         (starts_between spelled letters_utf8 (map is_word spelled) kept joined refl (kept_is_mark rules.separators text (map is_mark spelled)) cells_are at i
         (omega (arith, lt, ap length starts_are))))
 
     stops : (i : ℕ) → i < length starts → IsCharBoundary letters (slice_index ends i - at)
     stops i lt =
-        let place : get_or (ends_of found) i 0 - at ≡ slice_index ends i - at = ap (λ l. get_or l i 0 - at) (sym ends_are) in
+        let offset : get_or (ends_of found) i 0 - at ≡ slice_index ends i - at = ap (λ l. get_or l i 0 - at) (sym ends_are) in
         subst (λ l. IsCharBoundary l (slice_index ends i - at)) (sym letters_are)
-        (subst (IsCharBoundary (map letter spelled)) place
+        (subst (IsCharBoundary (map letter spelled)) offset
         (ends_between spelled letters_utf8 (map is_word spelled) kept joined refl (kept_is_mark rules.separators text (map is_mark spelled)) cells_are at i
         (omega (arith, lt, many, ap length ends_are))))
 

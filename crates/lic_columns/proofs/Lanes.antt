@@ -38,7 +38,7 @@ four_alike t i j = eqb (get_or t (16 * ((0 + i) / 16) + j) 0) (get_or t j 0)
 abbrev pub quarters_alike : List ℕ → Bool
 quarters_alike t = below (λ i. below (four_alike t i) 16) 64
 
--- a table of four equal quarters, read at places g x below 16
+-- a table of four equal quarters, read at offsets g x below 16
 pub looked_up : (t : List ℕ) (g : ℕ → ℕ) (v js : List ℕ) → IsBlock v → js ≡ map g v → ((x : ℕ) → x < 256 → g x < 16)
     → quarters_alike t ≡ true → swz_l w8 16 t 0 js ≡ map (λ x. get_or t (g x) 0) v
 looked_up t g v js fits e small alike =

@@ -3,8 +3,8 @@ pub mod Lanes
 pub mod ByteLemmas
 pub mod BitLemmas
 pub mod FlagLemmas
-pub mod PlaceLemmas
-pub mod PlaceLists
+pub mod OffsetLemmas
+pub mod OffsetLists
 pub mod Finds
 pub mod KnownLemmas
 pub mod CellLemmas

@@ -97,7 +97,7 @@ module _ (at : ℕ) (text : List ℕ) (cells : List Cell) (known : Known) (is : 
 
 -- ---- bytes of ASCII
 
--- the character of a byte at a place
+-- the character of a byte at an offset
 abbrev pub byte_char : ℕ → ℕ → SourceChar
 byte_char at b = record { char = b; start = at; end = at + len_utf8 b }
 

@@ -14,7 +14,7 @@ and_false : (t : Bool) → (t && false) ≡ false
 and_false true = refl
 and_false false = refl
 
--- flags of the marks of a column, and of the next place of each
+-- flags of the marks of a column, and of the next offset of each
 module _ (text : List ℕ) (marks : List Bool) (k here after i : ℕ) (small : i < 64)
     (bits : has_bit here i ≡ flag_at marks (k * 64 + i)) (next : has_bit after i ≡ flag_at marks (suc (k * 64 + i))) where
   both_bits : has_bit (bit_and here after) i ≡ (flag_at marks (k * 64 + i) && flag_at marks (suc (k * 64 + i)))
@@ -64,7 +64,7 @@ middle_past same n past = ap (λ t. flag_before same n && t) (get_or_past same n
 pub kept_past : (middle marks : List Bool) (n : ℕ) → length marks ≤ n → (flag_at marks n && not (is_in_separator middle n)) ≡ false
 kept_past middle marks n past = ap (λ t. t && not (is_in_separator middle n)) (get_or_past marks n false past)
 
--- ---- place by place
+-- ---- offset by offset
 
 pub same_at : (text : List ℕ) (marks : List Bool) (n : ℕ) → flag_at (same_as_next text marks) n ≡ is_same_as_next text marks n
 same_at text marks n = elim (cases_lt n (length marks)) [

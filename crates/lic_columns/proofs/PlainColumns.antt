@@ -1,4 +1,4 @@
--- Columns in which no mark has the letter of the next, from the last place of the column before on.
+-- Columns in which no mark has the letter of the next, from the last offset of the column before on.
 use Rattle.std.proofs.Common.{◌≡◌, ℕ, zero, suc, ◌+◌, ◌*◌, ◌/◌, ◌^◌, ◌<◌, Bool, true, false, not, ◌&&◌, ◌||◌, List, length, get_or, refl, ap, sym, ◌∙◌, arith}
 use Rattle.std.proofs.lemmas.Nat.Bits.{bit_at_lowest}
 use Rattle.std.specs.Prelude.{◌==◌, bit_or}

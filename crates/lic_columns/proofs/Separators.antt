@@ -196,7 +196,7 @@ parted-alike cells =
     let l = laid-alike (groups same_mark cells) in
     record { first = ap next e ∙ l.first; tokens = λ b. ap (cell_tokens b) e ∙ l.tokens b }
 
--- ---- at a place
+-- ---- at an offset
 
 -- the test of the cell before
 abbrev pub one_before : Bool → List Cell → ℕ → Bool

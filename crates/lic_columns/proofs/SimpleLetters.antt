@@ -11,7 +11,7 @@ use Rattle.lic_columns.specs.Marks.{HaveLetters}
 use Rattle.lic_columns.specs.Masks.{flag_at}
 use Rattle.lic_letters.specs.Simple.{AreSimple, in_place, all_in_place}
 use Rattle.lic_columns.proofs.WideTexts.{shape_of, AsciiShape, PlainShape, MarkShape}
-use Rattle.lic_letters.proofs.InPlace.{places_size}
+use Rattle.lic_letters.proofs.InPlace.{offsets_size}
 use Rattle.lic_letters.proofs.FirstBytes.{encoded_two, encoded_three, encoded_four, Starts, starts}
 use Rattle.lic_columns.proofs.WideMarks.{wide_lead, is_big}
 
@@ -86,7 +86,7 @@ four_of : (t : List ℕ) → length t ≡ 4 → (p : ℕ) × (q : ℕ) × (r : �
 four_of [] e = absurd (omega (arith, e))
 four_of (p ∷ t) e = let more = three_of t (omega (arith, e)) in (p, more.0, more.1, more.2, ap (λ l. p ∷ l) more.3)
 
--- what is spelled in the place of a character goes on as its first byte does
+-- what is spelled in place of a character goes on as its first byte does
 abbrev Goes : ℕ → ℕ → ℕ → Type 0
 Goes b d p = (source spelled : List ℕ) → SameLetter b d source (p ∷ spelled)
 
@@ -128,7 +128,7 @@ module _ (c : ℕ) (cs : List ℕ) (rest : AreAlike (text_of cs) (all_in_place c
         ),
       ))
 
-  -- how the bytes in the place of a character go on, whatever their number is
+  -- how the bytes in place of a character go on, whatever their number is
   wide_step : 128 ≤ c → length (in_place c) ≡ len_utf8 c
       → ((k : ℕ) → suc k < length (in_place c) → (b : ℕ) → Goes b (get_or (in_place c) k 0) (get_or (in_place c) (suc k) 0)) → Step
   wide_step big size goes = elim (cases_lt c 2048) [
@@ -195,6 +195,6 @@ alike_at (b ∷ source) (d ∷ spelled) size h (suc k) mark same = alike_at sour
 pub simple_letters : (cs : List ℕ) → AreSimple cs
     → HaveLetters (text_of cs) (map letter (all_in_place cs)) (map bytes.is_mark (all_in_place cs))
 simple_letters cs are = record {
-  long = length-map (all_in_place cs) letter ∙ sym (places_size cs are);
-  alike = alike_at (text_of cs) (all_in_place cs) (places_size cs are) (all_alike cs are);
+  long = length-map (all_in_place cs) letter ∙ sym (offsets_size cs are);
+  alike = alike_at (text_of cs) (all_in_place cs) (offsets_size cs are) (all_alike cs are);
 }

@@ -104,7 +104,7 @@ CellFits at b Blank = Unit {0}
 CellFits at b (Mark s) = IsMarkByte at b s
 CellFits at b (Word s) = IsWordByte at b s
 
--- a cell for each of these bytes, of which the first occurs at this place
+-- a cell for each of these bytes, of which the first occurs at this offset
 abbrev pub Fit : ℕ → List ℕ → List Cell → Type 0
 Fit at [] [] = Unit {0}
 Fit at [] (x ∷ cells) = ⊥
@@ -201,15 +201,15 @@ module _ (at : ℕ) (full : List ℕ) where
 
   pub rest_here : (p b : ℕ) (bytes : List ℕ) → at ≤ p → drop (p - at) full ≡ letter b ∷ map letter bytes → drop (suc p - at) full ≡ map letter bytes
   rest_here p b bytes low e =
-      let place : suc p - at ≡ suc (p - at) = omega arith in
-      ap (λ n. drop n full) place ∙ drop_next (p - at) full (letter b) (map letter bytes) e
+      let offset : suc p - at ≡ suc (p - at) = omega arith in
+      ap (λ n. drop n full) offset ∙ drop_next (p - at) full (letter b) (map letter bytes) e
 
   pub first_letters : (p end b : ℕ) (bytes : List ℕ) → at ≤ p → p < end → drop (p - at) full ≡ letter b ∷ map letter bytes
       → slice_range full (p - at) (end - at) ≡ letter b ∷ slice_range full (suc p - at) (end - at)
   first_letters p end b bytes low lt e =
-      let place : suc (p - at) ≡ suc p - at = omega arith in
+      let offset : suc (p - at) ≡ suc p - at = omega arith in
       slice_first full (p - at) (end - at) (letter b) (map letter bytes) e (omega arith)
-      ∙ ap (λ n. letter b ∷ slice_range full n (end - at)) place
+      ∙ ap (λ n. letter b ∷ slice_range full n (end - at)) offset
 
   -- one byte
   single_text : (p b : ℕ) (bytes : List ℕ) → at ≤ p → drop (p - at) full ≡ letter b ∷ map letter bytes
@@ -262,10 +262,10 @@ module _ (at : ℕ) (full : List ℕ) where
       let here = first_letters p s.end b (d ∷ bytes) low (omega arith) e in
       let second : slice_range full (suc p - at) (s.end - at) ≡ letter d ∷ slice_range full (suc (suc p) - at) (s.end - at) =
       first_letters (suc p) s.end d bytes (omega arith) end (rest_here p b (d ∷ bytes) low e) in
-      let place : slice_range full (suc p - at) (s.end - at) ≡ slice_range full (s.start - at) (s.end - at) =
+      let offset : slice_range full (suc p - at) (s.end - at) ≡ slice_range full (s.start - at) (s.end - at) =
       ap (λ n. slice_range full (n - at) (s.end - at)) (sym start) in
       let next_text : slice_range full (suc p - at) (s.end - at) ≡ token_text (slice_range full (s.start - at) (s.end - at)) =
-      second ∙ sym (token_text-word _ (letter d) _ (sym place ∙ second) more.0.plain) in
+      second ∙ sym (token_text-word _ (letter d) _ (sym offset ∙ second) more.0.plain) in
       ap (λ t. t ∷ ts) (same_token
       (token_text-word _ (letter b) _ here fits.plain ∙ ap₂ (λ k l. k ++ l) (sym fits.byte.text) next_text)
       (sym fits.byte.start) refl (not_after p before s blank start))
@@ -287,7 +287,7 @@ module _ (at : ℕ) (full : List ℕ) where
   on_next (Mark s) (Blank ∷ cells) h = absurd cc
   on_next (Word s) (Blank ∷ cells) h = absurd cc
 
-  -- the tokens of cells that begin at a place, after what ends before
+  -- the tokens of cells that begin at an offset, after what ends before
   abbrev AreTokens : ℕ → Cell → List Cell → Type 0
   AreTokens p prev cells = (blank : Bool) (before : ℕ) → before ≤ p
       → span_tokens blank at before full (spans p (column_cells prev cells)) ≡ cell_tokens (blank || nat_lt before p) cells

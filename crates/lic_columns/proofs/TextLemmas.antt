@@ -118,15 +118,15 @@ module _ (bytes : List ℕ) (marks : List Bool) where
       → is_in_separator (middles (same_as_next bytes marks)) k ≡ true
   three_to k j low high one two = elim (cases_lt j k) [
     | inr first ↦
-        let place : suc j ≡ suc k = omega arith in
-        or_right _ _ (or_right _ _ (ap (flag_at (middles (same_as_next bytes marks))) (sym place) ∙ of_three j one two))
+        let offset : suc j ≡ suc k = omega arith in
+        or_right _ _ (or_right _ _ (ap (flag_at (middles (same_as_next bytes marks))) (sym offset) ∙ of_three j one two))
     | inl more ↦ elim (cases_lt (suc j) k) [
       | inr second ↦
-          let place : suc j ≡ k = omega arith in
-          or_left _ _ (ap (flag_at (middles (same_as_next bytes marks))) (sym place) ∙ of_three j one two)
+          let offset : suc j ≡ k = omega arith in
+          or_left _ _ (ap (flag_at (middles (same_as_next bytes marks))) (sym offset) ∙ of_three j one two)
       | inl last ↦
-          let place : suc (suc j) ≡ k = omega arith in
-          or_right _ _ (or_left _ _ (ap (flag_before (middles (same_as_next bytes marks))) (sym place) ∙ of_three j one two))
+          let offset : suc (suc j) ≡ k = omega arith in
+          or_right _ _ (or_left _ _ (ap (flag_before (middles (same_as_next bytes marks))) (sym offset) ∙ of_three j one two))
     ]
   ]
 

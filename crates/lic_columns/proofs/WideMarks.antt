@@ -25,7 +25,7 @@ use Rattle.lic_columns.specs.SpanTokens.{span_tokens}
 use Rattle.lic_columns.specs.Tokens.{text_spans}
 use Rattle.lic_columns.proofs.FirstTokens.{next}
 use Rattle.lic_columns.proofs.Separators.{same_first, unmarked, is_gone, parted}
-use Rattle.lic_letters.proofs.InPlace.{places_size}
+use Rattle.lic_letters.proofs.InPlace.{offsets_size}
 use Rattle.lic_letters.proofs.FirstBytes.{Starts, encoded_two, encoded_three, encoded_four, starts}
 use Rattle.lic_columns.proofs.FlagCells.{marks, mark_at, AreSame, kept_are}
 use Rattle.lic_columns.proofs.LineTokens.{byte_char, mark_flag}
@@ -456,7 +456,7 @@ kept_is : (at : ℕ) (cs : List ℕ) → AreSimple cs
     → taken.without_separators (encode_utf8_all cs) (marks (exploded (more_bytes cs) (cells_at at cs)))
     ≡ marks (exploded (more_bytes cs) (parted false false (cells_at at cs)))
 kept_is at cs are =
-    let size = places_size cs are in
+    let size = offsets_size cs are in
     ap (taken.without_separators (encode_utf8_all cs)) (sym (dull_marks (encode_utf8_all cs) (all_in_place cs) size ∙ (wide_cells at cs are).mark))
     ∙ kept_are (encode_utf8_all cs) (dull_of cs) (dull_same (encode_utf8_all cs) (all_in_place cs) size)
     ∙ all_kept at cs are false false (may_not cs)

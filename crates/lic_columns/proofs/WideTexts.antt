@@ -115,7 +115,7 @@ run_flags f g x [] spelled rest is e = e
 run_flags f g x (b ∷ bs) spelled rest is e =
     ap₂ (λ t l. t ∷ l) (is zero (omega arith)) (run_flags f g x bs spelled rest (λ k lt. is (suc k) (omega (arith, lt))) e)
 
--- the bytes in the place of a character, beside its cell
+-- the bytes in place of a character, beside its cell
 pub record IsRun (at m : ℕ) (spelled : List ℕ) (x : Cell) : Type 0 where
   pub size : length spelled ≡ suc m
   pub wide : (rest : List ℕ) → IsWide at m (spelled ++ rest) x
@@ -304,10 +304,10 @@ module _ (at c : ℕ) (cs : List ℕ)
       (ascii_first at c (all_in_place cs) (more_bytes cs) others small rest))
 
   run_step : (t : List ℕ) (x : Cell) → in_place c ≡ t → cell_of (byte_char at c) ≡ x → IsRun at (more_of c) t x → StepsTo at c cs
-  run_step t x place cell run =
+  run_step t x offset cell run =
       let next : at + len_utf8 c ≡ at + suc (more_of c) = ap (λ n. at + n) (size_is c) in
       let here = subst (λ n. AreWideCells n (all_in_place cs) (more_bytes cs) others) next rest in
-      subst (λ l. AreWideCells at (l ++ all_in_place cs) (more_bytes (c ∷ cs)) (cell_of (byte_char at c) ∷ others)) (sym place)
+      subst (λ l. AreWideCells at (l ++ all_in_place cs) (more_bytes (c ∷ cs)) (cell_of (byte_char at c) ∷ others)) (sym offset)
       (subst (λ y. AreWideCells at (t ++ all_in_place cs) (more_bytes (c ∷ cs)) (y ∷ others)) (sym cell)
       (run_first at (more_of c) t (all_in_place cs) (more_bytes cs) x others run here))
 

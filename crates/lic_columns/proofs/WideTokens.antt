@@ -49,7 +49,7 @@ IsWide p more bytes Blank = Unit {0}
 IsWide p more bytes (Mark s) = IsWideMark p more bytes s
 IsWide p more bytes (Word s) = IsWideWord p more bytes s
 
--- cells of characters, one after another, of which the first begins at this place, by how many bytes more than one each has
+-- cells of characters, one after another, of which the first begins at this offset, by how many bytes more than one each has
 abbrev pub WideFit : ℕ → List ℕ → List ℕ → List Cell → Type 0
 WideFit p bytes [] [] = bytes ≡ []
 WideFit p bytes [] (x ∷ cells) = ⊥
@@ -188,15 +188,15 @@ on_self p m bytes (Word s) is dark lt = refl
 on_self p m bytes (Mark s) is dark lt = is.joins lt
 
 module _ (at : ℕ) (full : List ℕ) where
-  -- these bytes are the ones from this place on
+  -- these bytes are the ones from this offset on
   abbrev AreFrom : ℕ → List ℕ → Type 0
   AreFrom p bytes = (at ≤ p) × (drop (p - at) full ≡ map letter bytes)
 
   from_after : (p m : ℕ) (bytes : List ℕ) → AreFrom p bytes → AreFrom (p + suc m) (drop (suc m) bytes)
   from_after p m bytes here =
-      let place : p + suc m - at ≡ p - at + suc m = omega (arith, here.0) in (
+      let offset : p + suc m - at ≡ p - at + suc m = omega (arith, here.0) in (
         omega (arith, here.0),
-        ap (λ n. drop n full) place ∙ sym (drop-drop (suc m) (p - at) full) ∙ ap (drop (suc m)) here.1 ∙ drop-map letter (suc m) bytes,
+        ap (λ n. drop n full) offset ∙ sym (drop-drop (suc m) (p - at) full) ∙ ap (drop (suc m)) here.1 ∙ drop-map letter (suc m) bytes,
       )
 
   -- its letters, and those after it
@@ -264,11 +264,11 @@ module _ (at : ℕ) (full : List ℕ) where
       let size : t.end - at - (after - at) ≡ suc (t.end - at - suc (after - at)) = omega (arith, here.0) in
       let second : slice_range full (after - at) (t.end - at) ≡ letter d ∷ take (t.end - at - suc (after - at)) (map letter ds) =
       ap₂ take size ((from_after p m (b ∷ bytes) here).1 ∙ ap (map letter) first) in
-      let place : slice_range full (after - at) (t.end - at) ≡ slice_range full (t.start - at) (t.end - at) =
+      let offset : slice_range full (after - at) (t.end - at) ≡ slice_range full (t.start - at) (t.end - at) =
       ap (λ n. slice_range full (n - at) (t.end - at)) (sym start) in
       let text : token_text (slice_range full (p - at) (t.end - at)) ≡ encode_utf8_all (spell s.char) ++ token_text (slice_range full (t.start - at) (t.end - at)) =
       token_text-word _ (letter b) _ (letters_to p m b bytes here t.end (omega arith)) is.plain
-      ∙ ap₂ (λ k l. k ++ l) (sym is.text) (second ∙ sym (token_text-word _ (letter d) _ second plain) ∙ ap token_text place) in
+      ∙ ap₂ (λ k l. k ++ l) (sym is.text) (second ∙ sym (token_text-word _ (letter d) _ second plain) ∙ ap token_text offset) in
       ap (λ u. u ∷ ts) (same_token text (sym is.start) refl (no_blank p after before t blank start))
 
   merged_mark : (p m b : ℕ) (bytes : List ℕ) (s u : SourceChar) (before : ℕ) (blank : Bool) (t : Span) (ts : List Token)
@@ -279,7 +279,7 @@ module _ (at : ℕ) (full : List ℕ) where
       (token_text-joined _ (letter b) _ (letters_to p m b bytes here t.end (omega arith)) (letters_join b s u is.mark h) ∙ sym is.text ∙ spelled_own s)
       (sym is.start) refl (no_blank p (p + suc m) before t blank start))
 
-  -- the tokens of cells of characters that begin at a place, after what ends before
+  -- the tokens of cells of characters that begin at an offset, after what ends before
   abbrev AreWide : ℕ → Cell → List ℕ → List Cell → Type 0
   AreWide p prev ms cells = (blank : Bool) (before : ℕ) → before ≤ p
       → span_tokens blank at before full (spans p (column_cells prev (exploded ms cells))) ≡ cell_tokens (blank || nat_lt before p) cells

@@ -1,4 +1,4 @@
--- Cells: what is at each place of a text, and the tokens that they make.
+-- Cells: what is at each offset of a text, and the tokens that they make.
 use Rattle.std.specs.Prelude.{◌≡◌, ℕ, suc, Bool, true, false, not, ◌&&◌, List, [], ◌∷◌, map, length}
 use Rattle.std.specs.List.{range_with_len}
 use Rattle.lic_columns.specs.Masks.{flag_at}
@@ -10,7 +10,7 @@ pub data Cell : Type 0 where
   Mark : Cell
   Joined : Cell
 
--- the cell of a place by its flags
+-- the cell of an offset by its flags
 abbrev pub cell_of : Bool → Bool → Bool → Cell
 cell_of true mark joined = Word
 cell_of false false joined = Blank
@@ -48,7 +48,7 @@ continues before Word = is_word_cell before
 continues before Mark = false
 continues before Joined = is_mark_cell before
 
--- from the place where a token begins to the one after it
+-- from the offset where a token begins to the one after it
 pub record Span : Type 0 where
   pub start : ℕ
   pub end : ℕ
@@ -69,7 +69,7 @@ with_cell at true more spans = spans
 with_cell at false true spans = from_here at spans
 with_cell at false false spans = record { start = at; end = suc at } ∷ spans
 
--- the tokens of these cells, of which the first occurs at this place: each longest streak of cells of which each continues with the one before it
+-- the tokens of these cells, of which the first occurs at this offset: each longest streak of cells of which each continues with the one before it
 abbrev pub spans : ℕ → List Cell → List Span
 spans at [] = []
 spans at (c ∷ cells) = with_cell at (is_blank c) (continues c (next_cell cells)) (spans (suc at) cells)

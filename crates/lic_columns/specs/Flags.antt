@@ -16,7 +16,7 @@ has columns k = has_bit (slice_index columns (k / 64)) (k % 64)
 abbrev pub flags_in : ℕ → List ℕ → List Bool
 flags_in n columns = map (λ k. has columns k) (range_with_len 0 n)
 
--- the place is in the range
+-- the offset is in the range
 abbrev pub is_within : ℕ → ℕ → ℕ → Bool
 is_within from to k = nat_le from k && nat_lt k to
 

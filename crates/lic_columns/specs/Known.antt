@@ -1,4 +1,4 @@
--- What is known of the bytes of a text, place by place.
+-- What is known of the bytes of a text, offset by offset.
 use Rattle.std.specs.Prelude.{◌≡◌, ℕ, Bool, false, ◌&&◌, ◌||◌, List, map, length, ◌++◌}
 use Rattle.lic_letters.specs.Bytes.{letter, is_word, is_mark, is_feed}
 use Rattle.lic_columns.specs.Flags.{cleared}
@@ -45,6 +45,6 @@ followed_by one two = record {
 abbrev pub blanked : ℕ → ℕ → Known → Known
 blanked from to known = record known { word = cleared from to known.word; mark = cleared from to known.mark }
 
--- the byte at a place is no blank
+-- the byte at an offset is no blank
 abbrev pub is_dark : Known → ℕ → Bool
 is_dark known k = flag_at known.word k || flag_at known.mark k

@@ -1,7 +1,7 @@
 pub mod Classes
 pub mod Masks
 pub mod Flags
-pub mod Places
+pub mod Offsets
 pub mod Known
 pub mod Cells
 pub mod Marks
@@ -9,7 +9,7 @@ pub mod Carried
 pub mod Tokens
 pub mod SpanTokens
 pub mod Edges
-pub mod TokenPlaces
+pub mod TokenOffsets
 pub mod PlainLines
 pub use Rattle.lic_letters.specs.Bytes
 pub use Rattle.lic_letters.specs.Simple

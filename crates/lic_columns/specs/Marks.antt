@@ -3,7 +3,7 @@ use Rattle.std.specs.Prelude.{◌≡◌, ℕ, suc, Bool, true, not, ◌&&◌, �
 use Rattle.std.specs.List.{range_with_len}
 use Rattle.lic_columns.specs.Masks.{flag_at, flag_before}
 
--- a mark is at this place and at the next, with one same byte of the text
+-- a mark is at this offset and at the next, with one same byte of the text
 abbrev pub is_same_as_next : List ℕ → List Bool → ℕ → Bool
 is_same_as_next text marks k = (flag_at marks k && flag_at marks (suc k)) && (slice_index text k == slice_index text (suc k))
 

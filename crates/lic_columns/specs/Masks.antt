@@ -6,7 +6,7 @@ use Rattle.lic_trim.specs.PieceLengths.{has_bit}
 abbrev pub flag_at : List Bool → ℕ → Bool
 flag_at flags k = slice_index_or flags k false
 
--- whether the flag before this place is set: before the first none is
+-- whether the flag before this offset is set: before the first none is
 abbrev pub flag_before : List Bool → ℕ → Bool
 flag_before flags zero = false
 flag_before flags (suc k) = flag_at flags k

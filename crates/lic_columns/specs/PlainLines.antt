@@ -11,7 +11,7 @@ use Rattle.lic_lines.specs.Streaks.{streaks_joined}
 use Rattle.lic_lines.specs.Tokens.{first_tokens}
 pub use Rattle.lic_letters.specs.PlainLines.{ArePlainLines}
 use Rattle.lic_columns.specs.SpanTokens.{span_tokens, spans_by}
-use Rattle.lic_columns.specs.TokenPlaces.{TokenPlaces}
+use Rattle.lic_columns.specs.TokenOffsets.{TokenOffsets}
 
 -- a character that is of words if it is beyond ASCII
 abbrev pub IsOfWord : ℕ → Type 0
@@ -21,16 +21,16 @@ IsOfWord c = 128 ≤ c → kind_of c ≡ Word
 abbrev pub HasWords : List ℕ → Type 0
 HasWords text = AllByRecursion IsOfWord (chars text)
 
--- the first tokens of the lines of a text that begins at this place, by where they begin and end in its letters
-pub record HaveFirstTokens (rules : LineRules) (at : ℕ) (text : List ℕ) (places : TokenPlaces) : Type 0 where
-  pub utf8 : IsUtf8 places.letters
-  pub words : HasWords places.letters
-  pub long : length places.letters ≡ length text
-  pub paired : length places.ends ≡ length places.starts
-  pub from : (i : ℕ) → i < length places.starts → at ≤ slice_index places.starts i
-  pub some : (i : ℕ) → i < length places.starts → slice_index places.starts i < slice_index places.ends i
-  pub to : (i : ℕ) → i < length places.starts → slice_index places.ends i ≤ at + length places.letters
-  pub begin : (i : ℕ) → i < length places.starts → IsCharBoundary places.letters (slice_index places.starts i - at)
-  pub end : (i : ℕ) → i < length places.starts → IsCharBoundary places.letters (slice_index places.ends i - at)
-  pub tokens : span_tokens true at at places.letters (spans_by places.starts places.ends)
+-- the first tokens of the lines of a text that begins at this offset, by where they begin and end in its letters
+pub record HaveFirstTokens (rules : LineRules) (at : ℕ) (text : List ℕ) (offsets : TokenOffsets) : Type 0 where
+  pub utf8 : IsUtf8 offsets.letters
+  pub words : HasWords offsets.letters
+  pub long : length offsets.letters ≡ length text
+  pub paired : length offsets.ends ≡ length offsets.starts
+  pub from : (i : ℕ) → i < length offsets.starts → at ≤ slice_index offsets.starts i
+  pub some : (i : ℕ) → i < length offsets.starts → slice_index offsets.starts i < slice_index offsets.ends i
+  pub to : (i : ℕ) → i < length offsets.starts → slice_index offsets.ends i ≤ at + length offsets.letters
+  pub begin : (i : ℕ) → i < length offsets.starts → IsCharBoundary offsets.letters (slice_index offsets.starts i - at)
+  pub end : (i : ℕ) → i < length offsets.starts → IsCharBoundary offsets.letters (slice_index offsets.ends i - at)
+  pub tokens : span_tokens true at at offsets.letters (spans_by offsets.starts offsets.ends)
       ≡ first_tokens (streaks_joined rules (cells_of rules (placed at (chars text))))

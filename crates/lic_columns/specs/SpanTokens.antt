@@ -9,8 +9,8 @@ abbrev pub token_text : List ℕ → List ℕ
 token_text [] = []
 token_text (l ∷ letters) = if is_joining l then l ∷ [] else l ∷ letters
 
--- the token of a span of a text that begins at this place and has these letters, where a blank comes before the text or does not;
--- the token before it, or what comes before the text, ends at a place
+-- the token of a span of a text that begins at this offset and has these letters, where a blank comes before the text or does not;
+-- the token before it, or what comes before the text, ends at an offset
 abbrev pub span_token : Bool → ℕ → ℕ → List ℕ → Span → Token
 span_token after_blank at before letters s = record {
   text = token_text (slice_range letters (s.start - at) (s.end - at));
@@ -25,7 +25,7 @@ span_tokens after_blank at before letters [] = []
 span_tokens after_blank at before letters (s ∷ spans) =
     span_token after_blank at before letters s ∷ span_tokens false at s.end letters spans
 
--- the spans that begin at these places and end at those
+-- the spans that begin at these offsets and end at those
 abbrev pub spans_by : List ℕ → List ℕ → List Span
 spans_by [] ends = []
 spans_by (s ∷ starts) [] = []

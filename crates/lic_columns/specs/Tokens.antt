@@ -8,12 +8,12 @@ use Rattle.lic_columns.specs.Marks.{kept_in, joined_marks}
 abbrev pub kept_marks : Bool → List ℕ → Known → List Bool
 kept_marks separators bytes known = kept_in separators bytes known.mark
 
--- what is at each place once separators are taken out, and quotes and dashes joined
+-- what is at each offset once separators are taken out, and quotes and dashes joined
 abbrev pub text_cells : Bool → List ℕ → Known → List Cell
 text_cells separators bytes known =
     let kept = kept_marks separators bytes known in
     cells_of known.word kept (joined_marks known.letters kept)
 
--- the tokens of a text that begins at this place
+-- the tokens of a text that begins at this offset
 abbrev pub text_spans : Bool → ℕ → List ℕ → Known → List Span
 text_spans separators at bytes known = spans at (text_cells separators bytes known)

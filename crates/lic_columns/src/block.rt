@@ -74,23 +74,23 @@ fn classes(bytes: u8x64) -> u8x64
     classes_by_low(bytes) & classes_by_high(bytes)
 }
 
-/// At which places a lane is this one.
+/// At which offsets a lane is this one.
 #[inline(always)]
-pub fn places_of(lane: u8, lanes: u8x64) -> u64
+pub fn offsets_of(lane: u8, lanes: u8x64) -> u64
     ensures { IsMask result (map (λ b. b == lane) lanes) }
 {
     lanes.simd_eq(u8x64::splat(lane)).to_bitmask()
 }
 
-/// At which places a lane is at least this one.
+/// At which offsets a lane is at least this one.
 #[inline(always)]
-fn places_from(least: u8, lanes: u8x64) -> u64
+fn offsets_from(least: u8, lanes: u8x64) -> u64
     ensures { IsMask result (map (λ b. nat_le least b) lanes) }
 {
     lanes.simd_ge(u8x64::splat(least)).to_bitmask()
 }
 
-/// The small letter in the place of each capital.
+/// The small letter in place of each capital.
 #[inline(always)]
 fn lowered(bytes: u8x64) -> u8x64
     ensures { result ≡ map to_ascii_lowercase bytes }
@@ -119,9 +119,9 @@ pub fn read_block(bytes: u8x64) -> Block
     let classes = classes(bytes);
     Block {
         letters: letters(bytes),
-        word: places_of(WORD, classes),
-        mark: places_from(LEAST_MARK, classes),
-        feed: places_of(b'\n', bytes),
+        word: offsets_of(WORD, classes),
+        mark: offsets_from(LEAST_MARK, classes),
+        feed: offsets_of(b'\n', bytes),
     }
 }
 
@@ -135,7 +135,7 @@ pub(crate) fn padded(bytes: &[u8]) -> u8x64
     u8x64::from_array(block)
 }
 
-/// 64 bytes from a place on; after the end of the bytes there are blanks.
+/// 64 bytes from an offset on; after the end of the bytes there are blanks.
 #[inline(always)]
 fn load(bytes: &[u8], at: usize) -> u8x64
     requires { at ≤ length bytes.now }
@@ -150,9 +150,9 @@ fn load(bytes: &[u8], at: usize) -> u8x64
     }
 }
 
-/// At which of the 64 places from 64 * k on a byte is the same as the next.
+/// At which of the 64 offsets from 64 * k on a byte is the same as the next.
 #[inline(always)]
-pub(crate) fn same_places(bytes: &[u8], k: usize) -> u64
+pub(crate) fn same_offsets(bytes: &[u8], k: usize) -> u64
     requires { k * 64 < length bytes.now }
     ensures { (i : ℕ) → i < 64 → k * 64 + suc i < length bytes.now
         → has_bit result i ≡ (slice_index bytes.now (k * 64 + i) == slice_index bytes.now (k * 64 + suc i)) }
@@ -161,13 +161,13 @@ pub(crate) fn same_places(bytes: &[u8], k: usize) -> u64
     load(bytes, at).simd_eq(load(bytes, at + 1)).to_bitmask()
 }
 
-/// At which of the 64 places from 64 * k on the letter of quotes or of dashes is.
+/// At which of the 64 offsets from 64 * k on the letter of quotes or of dashes is.
 #[inline(always)]
-pub(crate) fn joining_places(letters: &[u8], k: usize) -> u64
+pub(crate) fn joining_offsets(letters: &[u8], k: usize) -> u64
     requires { k * 64 < length letters.now }
     ensures { (i : ℕ) → i < 64 → k * 64 + i < length letters.now
         → has_bit result i ≡ is_joining (slice_index letters.now (k * 64 + i)) }
 {
     let lanes = load(letters, k * SIZE);
-    places_of(b'\'', lanes) | places_of(b'-', lanes)
+    offsets_of(b'\'', lanes) | offsets_of(b'-', lanes)
 }

@@ -125,7 +125,7 @@ impl Columns {
         Ok(())
     }
 
-    /// Where the line ends of which this byte is a part: after the first line feed at this place or later, or at the
+    /// Where the line ends of which this byte is a part: after the first line feed at this offset or later, or at the
     /// end of the text.
     #[inline]
     pub fn line_end(&self, at: usize) -> usize

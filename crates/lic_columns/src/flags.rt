@@ -86,7 +86,7 @@ impl Flags {
         self.columns.len()
     }
 
-    /// The 64 flags from place 64 * k on, as a mask.
+    /// The 64 flags from offset 64 * k on, as a mask.
     #[inline(always)]
     pub fn column(&self, k: usize) -> u64
         ensures { (i : ℕ) → i < 64 → has_bit result i ≡ flag_at self.now (k * 64 + i) }

@@ -38,7 +38,7 @@ pub fn spans_are_first_tokens()
         ≡ tokens_after rules after_blank (placed at text) }
 {}
 
-/// The same of a text of simple characters, of which those beyond ASCII are spelled in the place of their bytes.
+/// The same of a text of simple characters, of which those beyond ASCII are spelled in place of their bytes.
 pub fn spans_of_simple_texts_are_first_tokens()
     ensures { (rules : LineRules) (after_blank : Bool) (at : ℕ) (text : List ℕ) → IsUtf8 text → AreSimple (chars text)
         → span_tokens after_blank at at (known_of (all_in_place (chars text))).letters

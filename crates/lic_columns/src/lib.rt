@@ -9,7 +9,7 @@ pub mod laws;
 mod lines;
 mod marks;
 mod mask;
-mod places;
+mod offsets;
 mod tokens;
 
 pub use lines::Lines;

@@ -14,7 +14,7 @@ ghost use Rattle.lic_columns.specs.Tokens.{text_spans};
 
 use crate::columns::Columns;
 use crate::edges::clear_lines;
-use crate::places::Places;
+use crate::offsets::Offsets;
 use crate::tokens::list_tokens;
 use lic_letters::spell_lines;
 use lic_lines::Rules;
@@ -32,16 +32,16 @@ pub struct Lines {
     columns: Columns,
     /// The characters of a line.
     characters: Vec<SourceChar>,
-    /// What the simple characters of lines are spelled by, in the place of their bytes.
+    /// What the simple characters of lines are spelled by, in place of their bytes.
     spelled: Vec<u8>,
-    starts: Places,
-    ends: Places,
+    starts: Offsets,
+    ends: Offsets,
 }
 
 impl Model for Lines {
-    ghost use Rattle.lic_columns.specs.TokenPlaces.{TokenPlaces};
+    ghost use Rattle.lic_columns.specs.TokenOffsets.{TokenOffsets};
 
-    ghost Value = { TokenPlaces };
+    ghost Value = { TokenOffsets };
 
     ghost view = { λ l. record { letters = l.columns.letters; starts = l.starts; ends = l.ends } };
 }
@@ -65,8 +65,8 @@ impl Lines {
             columns: Columns::new(alloc),
             characters: Vec::new(alloc),
             spelled: Vec::new(alloc),
-            starts: Places::new(alloc),
-            ends: Places::new(alloc),
+            starts: Offsets::new(alloc),
+            ends: Offsets::new(alloc),
         }
     }
 
@@ -86,7 +86,7 @@ impl Lines {
         self.starts.as_slice()
     }
 
-    /// The place after each token.
+    /// The offset after each token.
     #[inline(always)]
     pub fn ends(&self) -> &[u32]
         ensures { result.now ≡ self.now.ends }
@@ -104,7 +104,7 @@ impl Lines {
         self.ends.let_go(n);
     }
 
-    /// Reads a text of ASCII that begins at this place, whole lines, by these line rules: its first tokens.
+    /// Reads a text of ASCII that begins at this offset, whole lines, by these line rules: its first tokens.
     ///
     /// # Errors
     /// Memory ran out. What it then holds is not said.
@@ -143,7 +143,7 @@ impl Lines {
         Ok(())
     }
 
-    /// Reads the lines at the start of these bytes, which begin at this place, that are of simple characters and of which nothing but
+    /// Reads the lines at the start of these bytes, which begin at this offset, that are of simple characters and of which nothing but
     /// white space is taken, as far as their edges show: their first tokens. The answer is how many bytes these lines have.
     ///
     /// # Errors

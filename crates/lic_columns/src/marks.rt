@@ -5,7 +5,7 @@ ghost use Rattle.lic_columns.specs.Masks.{EndsBefore, IsColumn, flag_at};
 ghost use Rattle.lic_columns.specs.Marks.{HaveLetters, same_as_next, middles, is_joining, kept_by, kept_in, joined_marks};
 ghost use Rattle.lic_trim.specs.PieceLengths.{has_bit};
 
-use crate::block::{joining_places, same_places};
+use crate::block::{joining_offsets, same_offsets};
 use crate::flags::Flags;
 use crate::mask::{LAST, but_not, moved_down, moved_up};
 
@@ -30,26 +30,26 @@ impl Pairs {
         if both == 0 {
             return Pairs { same: 0, alike: 0 };
         }
-        let alike = both & same_places(letters, k);
+        let alike = both & same_offsets(letters, k);
         if alike == 0 {
             return Pairs { same: 0, alike: 0 };
         }
-        let same = alike & same_places(bytes, k);
+        let same = alike & same_offsets(bytes, k);
         Pairs { same, alike }
     }
 }
 
-/// Which of the places of column k have the letter of quotes or of dashes.
+/// Which of the offsets of column k have the letter of quotes or of dashes.
 #[inline(always)]
-fn joining(places: u64, letters: &[u8], k: usize) -> u64
-    requires { (i : ℕ) → i < 64 → has_bit places i ≡ true → k * 64 + i < length letters.now }
+fn joining(offsets: u64, letters: &[u8], k: usize) -> u64
+    requires { (i : ℕ) → i < 64 → has_bit offsets i ≡ true → k * 64 + i < length letters.now }
     ensures { (i : ℕ) → i < 64
-        → has_bit result i ≡ (has_bit places i && is_joining (slice_index letters.now (k * 64 + i))) }
+        → has_bit result i ≡ (has_bit offsets i && is_joining (slice_index letters.now (k * 64 + i))) }
 {
-    if places == 0 {
+    if offsets == 0 {
         return 0;
     }
-    places & joining_places(letters, k)
+    offsets & joining_offsets(letters, k)
 }
 
 /// The marks of a column without separators, and those of them that are joined to the one before.
@@ -60,7 +60,7 @@ pub struct Kept {
 }
 
 /// Which marks of a column are the middle ones of three same ones, by which are the same as the next; of those of the column before the
-/// last place alone has an effect.
+/// last offset alone has an effect.
 #[inline(always)]
 fn middles_of(before: u64, same: u64) -> u64
     ensures { (flags : List Bool) (k : ℕ) → EndsBefore before flags k → IsColumn same flags k → IsColumn result (middles flags) k }
@@ -69,7 +69,7 @@ fn middles_of(before: u64, same: u64) -> u64
 }
 
 /// The marks of a column that are kept: without those in a separator, where separators are taken out. Which marks are the middle ones of three
-/// same ones is given for the column, the one before and the one after; of these the last and the first place alone have an effect.
+/// same ones is given for the column, the one before and the one after; of these the last and the first offset alone have an effect.
 #[inline(always)]
 fn kept_of(separators: bool, mark: u64, before: u64, middle: u64, after: u64) -> u64
     ensures { (flags marks : List Bool) (k : ℕ) → EndsBefore before flags k → IsColumn middle flags k
@@ -84,7 +84,7 @@ fn kept_of(separators: bool, mark: u64, before: u64, middle: u64, after: u64) ->
 }
 
 /// Whether the first mark of a column is the middle one of three same ones, as the lowest bit of a mask; of those that are the same as the
-/// next in the column before the last place alone has an effect, and mostly it has none.
+/// next in the column before the last offset alone has an effect, and mostly it has none.
 #[inline(always)]
 fn middle_first(bytes: &[u8], letters: &[u8], marks: &Flags, before: u64, k: usize) -> u64
     requires long { length bytes.now ≡ length marks.now }
@@ -100,7 +100,7 @@ fn middle_first(bytes: &[u8], letters: &[u8], marks: &Flags, before: u64, k: usi
     middles_of(before, pairs.same)
 }
 
-/// What is carried to a column, of the column before, of which the last place alone has an effect: its pairs, which of its marks are the
+/// What is carried to a column, of the column before, of which the last offset alone has an effect: its pairs, which of its marks are the
 /// middle ones of three, and the kept marks that have the letter of the next.
 #[derive(Drop, Clone, Copy)]
 pub struct Carried {

@@ -1,7 +1,7 @@
 //! Masks of 64 bits.
 ghost use Rattle.std.specs.Prelude.{◌≡◌, ℕ, suc, ◌+◌, ◌++◌, ◌-◌, ◌^◌, ◌<◌, ◌≤◌, not, ◌&&◌, ◌∷◌, IfOk};
 ghost use Rattle.lic_columns.specs.Flags.{bits_of, is_within};
-ghost use Rattle.lic_columns.specs.Places.{places};
+ghost use Rattle.lic_columns.specs.Offsets.{offsets};
 ghost use Rattle.lic_trim.specs.PieceLengths.{has_bit};
 
 // How many bits a mask has.
@@ -29,7 +29,7 @@ pub fn without(mask: u64, from: usize, to: usize) -> u64
     mask & (below(from) | !below(to))
 }
 
-/// Each bit moved up by one place, and into the lowest the highest of the mask before.
+/// Each bit moved up by one offset, and into the lowest the highest of the mask before.
 #[inline(always)]
 pub fn moved_up(before: u64, mask: u64) -> u64
     ensures first { has_bit result 0 ≡ has_bit before 63 }
@@ -38,7 +38,7 @@ pub fn moved_up(before: u64, mask: u64) -> u64
     mask << 1 | before >> LAST
 }
 
-/// Each bit moved down by one place, and into the highest the lowest of the mask after.
+/// Each bit moved down by one offset, and into the highest the lowest of the mask after.
 #[inline(always)]
 pub fn moved_down(mask: u64, after: u64) -> u64
     ensures last { has_bit result 63 ≡ has_bit after 0 }

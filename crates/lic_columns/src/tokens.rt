@@ -11,15 +11,15 @@ use crate::block::SIZE;
 use crate::columns::Columns;
 use crate::marks::{Carried, Kept};
 use crate::mask::{but_not, moved_up};
-use crate::places::Places;
+use crate::offsets::Offsets;
 use std::alloc::AllocError;
 
 /// Memory is taken for a token in this number of bytes.
 const BYTES_OF_A_TOKEN: usize = 4;
 
-/// At which places of a column a token begins; of the words of the column before the last place alone has an effect.
+/// At which offsets of a column a token begins; of the words of the column before the last offset alone has an effect.
 #[inline(always)]
-fn first_places(before: u64, word: u64, marks: &Kept) -> u64
+fn first_offsets(before: u64, word: u64, marks: &Kept) -> u64
     ensures { (words kept joined : List Bool) (k : ℕ) → AreCells words kept joined → EndsBefore before words k → IsColumn word words k
         → IsColumn marks.now.kept kept k → IsColumn marks.now.joined joined k
         → IsColumn result (firsts Blank (cells_of words kept joined)) k }
@@ -27,10 +27,10 @@ fn first_places(before: u64, word: u64, marks: &Kept) -> u64
     but_not(word, moved_up(before, word)) | but_not(marks.kept, marks.joined)
 }
 
-/// At which places of a column a token has ended: the place before is its last. Of the words and of the kept marks of the column before
-/// the last place alone has an effect.
+/// At which offsets of a column a token has ended: the offset before is its last. Of the words and of the kept marks of the column before
+/// the last offset alone has an effect.
 #[inline(always)]
-fn end_places(before: u64, word: u64, kept_before: u64, marks: &Kept) -> u64
+fn end_offsets(before: u64, word: u64, kept_before: u64, marks: &Kept) -> u64
     ensures { (words kept joined : List Bool) (k : ℕ) → AreCells words kept joined → EndsBefore before words k → IsColumn word words k
         → EndsBefore kept_before kept k → IsColumn marks.now.kept kept k → IsColumn marks.now.joined joined k
         → IsColumn result (false ∷ lasts (cells_of words kept joined)) k }
@@ -38,8 +38,8 @@ fn end_places(before: u64, word: u64, kept_before: u64, marks: &Kept) -> u64
     but_not(moved_up(before, word), word) | but_not(moved_up(kept_before, marks.kept), marks.joined)
 }
 
-/// Lists the places where the tokens of a text begin, and those after the places where they end: each longest streak of bytes of a
-/// word, and each mark that is in no separator, or row of quotes or of dashes. The text begins at this place.
+/// Lists the offsets where the tokens of a text begin, and those after the offsets where they end: each longest streak of bytes of a
+/// word, and each mark that is in no separator, or row of quotes or of dashes. The text begins at this offset.
 ///
 /// # Errors
 /// Memory ran out. What the lists then hold is not said.
@@ -48,8 +48,8 @@ pub fn list_tokens(
     at: u32,
     bytes: &[u8],
     columns: &Columns,
-    starts: &mut Places,
-    ends: &mut Places,
+    starts: &mut Offsets,
+    ends: &mut Offsets,
 ) -> Result<(), AllocError>
     requires fits { at + length bytes.now + 65 ≤ 2 ^ 32 }
     requires text { IsText (length bytes.now) columns.now }
@@ -68,9 +68,9 @@ pub fn list_tokens(
         let after = marks.column(k + 1);
         let here = carried.next(separators, bytes, letters, marks, mark, after, k);
         let word = words.column(k);
-        let place = at + (k * SIZE) as u32;
-        starts.put(place, first_places(before, word, &here))?;
-        ends.put(place, end_places(before, word, kept, &here))?;
+        let offset = at + (k * SIZE) as u32;
+        starts.put(offset, first_offsets(before, word, &here))?;
+        ends.put(offset, end_offsets(before, word, kept, &here))?;
         mark = after;
         before = word;
         kept = here.kept;

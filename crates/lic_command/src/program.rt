@@ -1,7 +1,7 @@
 //! The whole program.
 //!
 //! Each command is a function of its own on the stack (`inline(never)`): line rules and a word list have kilobytes, and each call that is
-//! inlined would have places of its own for them.
+//! inlined would have memory of its own for them.
 //!
 //! `tokens`, which needs the fewest functions, is named first: the program has them in this order, and so fewer of its pages are read in.
 

@@ -6,7 +6,7 @@ use Rattle.std.proofs.lemmas.Simd.{length-put_chunk, put_chunk_is}
 use Rattle.std.specs.Simd.Lanes.{chunk, put_chunk}
 use borrow.Rule.Slice.PartMut.{put_mid}
 
--- what is written over the bytes from a place on, and the first of it
+-- what is written over the bytes from an offset on, and the first of it
 pub take_put : (bytes mid : List ℕ) (a k m : ℕ) → a ≤ length bytes → m ≤ length mid → take (a + m) (put_mid a k bytes mid) ≡ take a bytes ++ take m mid
 take_put bytes mid a k m fits short =
     ap (λ n. take (n + m) (put_mid a k bytes mid)) (sym (length-take-le a bytes fits))
@@ -51,34 +51,34 @@ parts_written bytes mid buffer x y rest same at fits low long is parts lens =
     (ap (take (42 - at)) mid_is ∙ (take-take (42 - at) 42 (drop at buffer) (omega arith)
     ∙ (ap (take (42 - at)) parts ∙ both_taken x y rest (42 - at) (sym lens))))
 
--- bytes written at a place by lanes
-pub lanes_written : (bytes from : List ℕ) (place n : ℕ) → place + n ≤ length bytes → n ≤ length from
-    → take (place + n) (put_chunk place bytes (take n from)) ≡ take place bytes ++ take n from
-lanes_written bytes from place n fits long =
+-- bytes written at an offset by lanes
+pub lanes_written : (bytes from : List ℕ) (offset n : ℕ) → offset + n ≤ length bytes → n ≤ length from
+    → take (offset + n) (put_chunk offset bytes (take n from)) ≡ take offset bytes ++ take n from
+lanes_written bytes from offset n fits long =
     let part : length (take n from) ≡ n = length-take-le n from long in
-    let start : length (take place bytes) ≡ place = length-take-le place bytes (omega (arith, fits)) in
-    ap (take (place + n)) (put_chunk_is place bytes (take n from) (omega (arith, part, fits)))
-    ∙ both_taken (take place bytes) (take n from) _ (place + n) (omega (arith, part, start))
+    let start : length (take offset bytes) ≡ offset = length-take-le offset bytes (omega (arith, fits)) in
+    ap (take (offset + n)) (put_chunk_is offset bytes (take n from) (omega (arith, part, fits)))
+    ∙ both_taken (take offset bytes) (take n from) _ (offset + n) (omega (arith, part, start))
 
 -- the bytes of a copy that count
-pub front_copied : (old new from : List ℕ) (place n len : ℕ) → place ≤ length old → len ≤ n
-    → take (place + n) new ≡ take place old ++ take n from → take (place + len) new ≡ take place old ++ take len from
-front_copied old new from place n len within short copied =
-    let start : length (take place old) ≡ place = length-take-le place old within in
-    sym (take-take (place + len) (place + n) new (omega (arith, short)))
-    ∙ (ap (take (place + len)) copied
-    ∙ (ap (λ m. take (m + len) (take place old ++ take n from)) (sym start)
-    ∙ (take-append-add (take place old) (take n from) len ∙ ap (λ l. take place old ++ l) (take-take len n from short))))
+pub front_copied : (old new from : List ℕ) (offset n len : ℕ) → offset ≤ length old → len ≤ n
+    → take (offset + n) new ≡ take offset old ++ take n from → take (offset + len) new ≡ take offset old ++ take len from
+front_copied old new from offset n len within short copied =
+    let start : length (take offset old) ≡ offset = length-take-le offset old within in
+    sym (take-take (offset + len) (offset + n) new (omega (arith, short)))
+    ∙ (ap (take (offset + len)) copied
+    ∙ (ap (λ m. take (m + len) (take offset old ++ take n from)) (sym start)
+    ∙ (take-append-add (take offset old) (take n from) len ∙ ap (λ l. take offset old ++ l) (take-take len n from short))))
 
 -- two parts of a block, one written after the other, and the bytes of it that count
-pub parts_front : (old mid new block : List ℕ) (place a b len : ℕ) → place ≤ length old → a + b ≤ length block → len ≤ a + b
-    → take (place + a) mid ≡ take place old ++ take a block
-    → take (place + a + b) new ≡ take (place + a) mid ++ take b (take (length block - a) (drop a block))
-    → take (place + len) new ≡ take place old ++ take len block
-parts_front old mid new block place a b len within long short one two =
+pub parts_front : (old mid new block : List ℕ) (offset a b len : ℕ) → offset ≤ length old → a + b ≤ length block → len ≤ a + b
+    → take (offset + a) mid ≡ take offset old ++ take a block
+    → take (offset + a + b) new ≡ take (offset + a) mid ++ take b (take (length block - a) (drop a block))
+    → take (offset + len) new ≡ take offset old ++ take len block
+parts_front old mid new block offset a b len within long short one two =
     let after : take b (take (length block - a) (drop a block)) ≡ take b (drop a block) =
     take-take b (length block - a) (drop a block) (omega (arith, long)) in
-    let whole : take (place + a + b) new ≡ take place old ++ take (a + b) block =
-    two ∙ (ap₂ (λ x y. x ++ y) one after ∙ (append_assoc (take place old) (take a block) (take b (drop a block))
-    ∙ ap (λ l. take place old ++ l) (sym (take-add a b block)))) in
-    front_copied old new block place (a + b) len within short (ap (λ n. take n new) (omega arith) ∙ whole)
+    let whole : take (offset + a + b) new ≡ take offset old ++ take (a + b) block =
+    two ∙ (ap₂ (λ x y. x ++ y) one after ∙ (append_assoc (take offset old) (take a block) (take b (drop a block))
+    ∙ ap (λ l. take offset old ++ l) (sym (take-add a b block)))) in
+    front_copied old new block offset (a + b) len within short (ap (λ n. take n new) (omega arith) ∙ whole)

@@ -51,7 +51,7 @@ ends_more n first low fits is = (
       ∙ (append_assoc (decimal (n / 1000)) (last_three n) (0x09 ∷ []) ∙ ap (λ l. l ++ last_digits n) (sym is)),
 )
 
--- the digits of the table from a place on
+-- the digits of the table from an offset on
 table_long : (from : ℕ) → length (drop from last_digits_below_1000) ≡ 1000 - from
 table_long from =
     length-drop from last_digits_below_1000 ∙ ap (λ n. n - from) (length-map-range_with_len last_digits 0 1000)

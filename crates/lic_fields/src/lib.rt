@@ -86,7 +86,7 @@ fn plain_blocks(bytes: &[u8], from: usize) -> usize
     at
 }
 
-/// The place of the first byte from `from` on that a field must not have as it is; the length where there is none.
+/// The offset of the first byte from `from` on that a field must not have as it is; the length where there is none.
 pub fn next_escaped(bytes: &[u8], from: usize) -> usize
     requires { from ≤ length bytes.now }
     ensures order { (from ≤ result) × (result ≤ length bytes.now) }

@@ -56,13 +56,13 @@ fn make_longer(bytes: &mut Vec<u8>, count: usize) -> Result<(), AllocError>
     bytes.resize(bytes.len() + count, 0)
 }
 
-/// Writes these bytes at a place.
-fn write_bytes(bytes: &mut [u8], place: usize, from: &[u8])
-    requires fits { place + length from.now ≤ length bytes.old }
-    ensures written { take (place + length from.now) bytes.new ≡ take place bytes.old ++ from.now }
+/// Writes these bytes at an offset.
+fn write_bytes(bytes: &mut [u8], offset: usize, from: &[u8])
+    requires fits { offset + length from.now ≤ length bytes.old }
+    ensures written { take (offset + length from.now) bytes.new ≡ take offset bytes.old ++ from.now }
     ensures len { length bytes.new ≡ length bytes.old }
 {
-    bytes[place..place + from.len()].copy_from_slice(from);
+    bytes[offset..offset + from.len()].copy_from_slice(from);
 }
 
 /// Adds a text as a field, and the line end after it. A text that is said to be plain is not looked at.
@@ -78,7 +78,7 @@ fn add_last(line: &mut Vec<u8>, text: &[u8], is_plain: bool) -> Result<(), Alloc
     add_text(line, text, b'\n')
 }
 
-/// Puts a line, field by field, in the place of what is there: these bytes, two numbers and a text.
+/// Puts a line, field by field, in place of what is there: these bytes, two numbers and a text.
 fn set_fields(
     line: &mut Vec<u8>,
     front: &[u8],

@@ -32,76 +32,76 @@ fn write_four(bytes: &mut [u8], end: usize, four: u8x4)
     four.copy_to_slice(&mut bytes[end - 4..]);
 }
 
-/// Copies 64 bytes to a place.
+/// Copies 64 bytes to an offset.
 #[inline(always)]
-fn copy_64(bytes: &mut [u8], place: usize, from: &[u8])
-    requires fits { place + 64 ≤ length bytes.old }
+fn copy_64(bytes: &mut [u8], offset: usize, from: &[u8])
+    requires fits { offset + 64 ≤ length bytes.old }
     requires long { 64 ≤ length from.now }
-    ensures copied { take (place + 64) bytes.new ≡ take place bytes.old ++ take 64 from.now }
+    ensures copied { take (offset + 64) bytes.new ≡ take offset bytes.old ++ take 64 from.now }
     ensures len { length bytes.new ≡ length bytes.old }
 {
-    u8x64::from_slice(from).copy_to_slice(&mut bytes[place..]);
+    u8x64::from_slice(from).copy_to_slice(&mut bytes[offset..]);
 }
 
-/// Copies 32 bytes to a place.
+/// Copies 32 bytes to an offset.
 #[inline(always)]
-fn copy_32(bytes: &mut [u8], place: usize, from: &[u8])
-    requires fits { place + 32 ≤ length bytes.old }
+fn copy_32(bytes: &mut [u8], offset: usize, from: &[u8])
+    requires fits { offset + 32 ≤ length bytes.old }
     requires long { 32 ≤ length from.now }
-    ensures copied { take (place + 32) bytes.new ≡ take place bytes.old ++ take 32 from.now }
+    ensures copied { take (offset + 32) bytes.new ≡ take offset bytes.old ++ take 32 from.now }
     ensures len { length bytes.new ≡ length bytes.old }
 {
-    u8x32::from_slice(from).copy_to_slice(&mut bytes[place..]);
+    u8x32::from_slice(from).copy_to_slice(&mut bytes[offset..]);
 }
 
-/// Copies 16 bytes to a place.
+/// Copies 16 bytes to an offset.
 #[inline(always)]
-fn copy_16(bytes: &mut [u8], place: usize, from: &[u8])
-    requires fits { place + 16 ≤ length bytes.old }
+fn copy_16(bytes: &mut [u8], offset: usize, from: &[u8])
+    requires fits { offset + 16 ≤ length bytes.old }
     requires long { 16 ≤ length from.now }
-    ensures copied { take (place + 16) bytes.new ≡ take place bytes.old ++ take 16 from.now }
+    ensures copied { take (offset + 16) bytes.new ≡ take offset bytes.old ++ take 16 from.now }
     ensures len { length bytes.new ≡ length bytes.old }
 {
-    u8x16::from_slice(from).copy_to_slice(&mut bytes[place..]);
+    u8x16::from_slice(from).copy_to_slice(&mut bytes[offset..]);
 }
 
-/// Writes the first `len` of these bytes, at most 48, at a place, and some after them.
+/// Writes the first `len` of these bytes, at most 48, at an offset, and some after them.
 #[inline(always)]
-fn write_short_block(bytes: &mut [u8], place: usize, block: &[u8], len: usize)
+fn write_short_block(bytes: &mut [u8], offset: usize, block: &[u8], len: usize)
     requires short { len ≤ 48 }
     requires long { 128 ≤ length block.now }
-    requires fits { place + 128 ≤ length bytes.old }
-    ensures written { take (place + len) bytes.new ≡ take place bytes.old ++ take len block.now }
+    requires fits { offset + 128 ≤ length bytes.old }
+    ensures written { take (offset + len) bytes.new ≡ take offset bytes.old ++ take len block.now }
     ensures len { length bytes.new ≡ length bytes.old }
 {
     if len <= SHORTEST {
-        copy_32(bytes, place, block);
+        copy_32(bytes, offset, block);
         return;
     }
-    copy_32(bytes, place, block);
-    copy_16(bytes, place + 32, &block[32..]);
+    copy_32(bytes, offset, block);
+    copy_16(bytes, offset + 32, &block[32..]);
 }
 
-/// Writes the first `len` of these bytes at a place, and some after them, so that the copy is of a fixed length.
+/// Writes the first `len` of these bytes at an offset, and some after them, so that the copy is of a fixed length.
 #[inline(always)]
-fn write_block(bytes: &mut [u8], place: usize, block: &[u8], len: usize)
+fn write_block(bytes: &mut [u8], offset: usize, block: &[u8], len: usize)
     requires short { len ≤ 128 }
     requires long { 128 ≤ length block.now }
-    requires fits { place + 128 ≤ length bytes.old }
-    ensures written { take (place + len) bytes.new ≡ take place bytes.old ++ take len block.now }
+    requires fits { offset + 128 ≤ length bytes.old }
+    ensures written { take (offset + len) bytes.new ≡ take offset bytes.old ++ take len block.now }
     ensures len { length bytes.new ≡ length bytes.old }
 {
     if len <= SHORTER {
-        write_short_block(bytes, place, block, len);
+        write_short_block(bytes, offset, block, len);
         return;
     }
     if len <= SHORT {
-        copy_64(bytes, place, block);
-        copy_16(bytes, place + 64, &block[64..]);
+        copy_64(bytes, offset, block);
+        copy_16(bytes, offset + 64, &block[64..]);
         return;
     }
-    copy_64(bytes, place, block);
-    copy_64(bytes, place + 64, &block[64..]);
+    copy_64(bytes, offset, block);
+    copy_64(bytes, offset + 64, &block[64..]);
 }
 
 /// Writes the first `len` bytes of a short text at `end`, and the line end after them.

@@ -128,7 +128,7 @@ module _ {X : Type 0} (Ahead : X → X → Type 0) (beats drops : X → X → Bo
           ),
         )
 
-  -- from an order of the places
+  -- from an order of the indices
   pub Ranked-from_pairs : (xs : List X) → AllPairs Ahead xs → Ranked xs
   Ranked-from_pairs [] pairs = tt
   Ranked-from_pairs (x ∷ xs) pairs = (

@@ -35,7 +35,7 @@ module _ (tokens templates : ℕ) where
       let high : j ≡ t.template = ap (λ u. u.template) d in
       inr (first', inr (last', omega arith))) 0 templates)
       (λ t (k, low, high, e).
-      let place : k ≡ t.template = ap (λ u. u.template) e in
+      let cursor : k ≡ t.template = ap (λ u. u.template) e in
       (ap (λ u. u.first) (sym e), ap (λ u. u.last) (sym e), omega arith))
       (λ t (first', last', high). (t.template, omega arith, omega arith, same_parts t (triple_at first last t.template) first' last' refl)))
 
@@ -71,9 +71,9 @@ Decides-precedes s t =
     (Decides-and _ _ (Decides-eqb s.first t.first)
     (Decides-or _ _ (Decides-ltb s.last t.last) (Decides-and _ _ (Decides-eqb s.last t.last) (Decides-ltb s.template t.template))))
 
-Decides-is_after : (place : Option Triple) (t : Triple) → Decides (is_after place t) (IsAfter place t)
+Decides-is_after : (cursor : Option Triple) (t : Triple) → Decides (is_after cursor t) (IsAfter cursor t)
 Decides-is_after None t = (λ h. tt, λ h. refl)
-Decides-is_after (Some place) t = Decides-precedes place t
+Decides-is_after (Some cursor) t = Decides-precedes cursor t
 
 module _ (decided : (e : Expression) (ts : List (List ℕ)) → IsTrue (is_described e ts) ↔ IsDescribed e ts) where
   described_by : (o : Option Known) (letters : List (List ℕ)) → describes o letters ≡ true

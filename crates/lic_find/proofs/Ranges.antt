@@ -15,16 +15,16 @@ module _ {A : Type 0} (xs : List A) where
   slice_range-more a b d order within =
       let count : (b + 1) - a ≡ (b - a) + 1 = omega arith in
       let short : b - a < length (drop a xs) = omega (arith, length-drop a xs) in
-      let place : a + (b - a) ≡ b = omega arith in
+      let cursor : a + (b - a) ≡ b = omega arith in
       ap (λ n. take n (drop a xs)) count ∙ take_more (drop a xs) (b - a) d short
-      ∙ ap (λ x. take (b - a) (drop a xs) ++ x ∷ []) (get_or-drop a xs (b - a) d ∙ ap (λ n. get_or xs n d) place)
+      ∙ ap (λ x. take (b - a) (drop a xs) ++ x ∷ []) (get_or-drop a xs (b - a) d ∙ ap (λ n. get_or xs n d) cursor)
 
   pub slice_range-split : (a b e : ℕ) → a ≤ b → b ≤ e → slice_range xs a e ≡ slice_range xs a b ++ slice_range xs b e
   slice_range-split a b e first last =
       let count : e - a ≡ (b - a) + (e - b) = omega arith in
-      let place : a + (b - a) ≡ b = omega arith in
+      let cursor : a + (b - a) ≡ b = omega arith in
       ap (λ n. take n (drop a xs)) count ∙ take-add (b - a) (e - b) (drop a xs)
-      ∙ ap (λ ys. take (b - a) (drop a xs) ++ take (e - b) ys) (drop-drop (b - a) a xs ∙ ap (λ n. drop n xs) place)
+      ∙ ap (λ ys. take (b - a) (drop a xs) ++ take (e - b) ys) (drop-drop (b - a) a xs ∙ ap (λ n. drop n xs) cursor)
 
 module _ (tokens : List TokenValue) where
   pub letters_up_to-none : (first : ℕ) → letters_up_to tokens first first ≡ []

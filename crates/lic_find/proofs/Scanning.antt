@@ -20,15 +20,15 @@ use Rattle.lic_set.specs.declared.triple.Triple.{Triple}
 use Rattle.lic_find.proofs.Triples.{same_parts}
 use Rattle.lic_find.proofs.Ranges.{letters_up_to-none, letters_up_to-more, letters_up_to-split}
 
--- what comes after a place begins with its first token or later
-after_begins : (place : Option Triple) (begin : ℕ) (t : Triple) → BeginsAt place begin → IsAfter place t → begin ≤ t.first
+-- what comes after a cursor begins with its first token or later
+after_begins : (cursor : Option Triple) (begin : ℕ) (t : Triple) → BeginsAt cursor begin → IsAfter cursor t → begin ≤ t.first
 after_begins None begin t begins after = omega (arith, begins)
-after_begins (Some place) begin t begins after = omega (arith, begins, after)
+after_begins (Some cursor) begin t begins after = omega (arith, begins, after)
 
 -- what begins later comes after it
-begins_after : (place : Option Triple) (begin : ℕ) (t : Triple) → BeginsAt place begin → begin < t.first → IsAfter place t
+begins_after : (cursor : Option Triple) (begin : ℕ) (t : Triple) → BeginsAt cursor begin → begin < t.first → IsAfter cursor t
 begins_after None begin t begins later = tt
-begins_after (Some place) begin t begins later = inl (omega (arith, begins))
+begins_after (Some cursor) begin t begins later = inl (omega (arith, begins))
 
 -- a list of numbers has a number, or not
 pub there : (xs : List ℕ) (k : ℕ) → ∥ Contains xs k ∥₁ → Contains xs k
@@ -43,10 +43,10 @@ module _ (set : List Known) (tokens : List TokenValue) where
       omega arith
 
   -- at the first of the noted first tokens
-  module _ (place : Option Triple) (begin from : ℕ) (begins : BeginsAt place begin) (low : from ≤ begin)
+  module _ (cursor : Option Triple) (begin from : ℕ) (begins : BeginsAt cursor begin) (low : from ≤ begin)
       (high : from < length tokens → begin ≤ from) (run : Run) (templates : set_of run ≡ set) where
     pub HasCome-begin : (noted : NotedFirst) (more : List NotedFirst) → AreFirstsFrom set tokens (numbers_of run) from (noted ∷ more) →
-        RunHasTakenAmong run (noted_with (numbers_of run) noted.numbers) [] → HasCome set tokens place run more noted.first noted.first
+        RunHasTakenAmong run (noted_with (numbers_of run) noted.numbers) [] → HasCome set tokens cursor run more noted.first noted.first
     HasCome-begin noted more (is, past) taken =
         let (last, template, m) = is.begins in
         let within : noted.first < length tokens = first_within (triple_at noted.first last template) m.0 in
@@ -60,16 +60,16 @@ module _ (set : List Known) (tokens : List TokenValue) where
           taken = subst (RunHasTakenAmong run (noted_with (numbers_of run) noted.numbers)) (sym (letters_up_to-none tokens noted.first)) taken;
           all = is.all;
           reached = λ t n after.
-              let late : begin ≤ t.first = after_begins place begin t begins after in
+              let late : begin ≤ t.first = after_begins cursor begin t begins after in
               let order : t.first ≤ t.last = n.0.order in
               (is.passed t n (omega arith), λ same. omega arith);
-          ahead = λ t n later. begins_after place begin t begins (omega arith);
+          ahead = λ t n later. begins_after cursor begin t begins (omega arith);
           firsts = past;
         }
 
     -- where no match begins
     pub HasCome-none : AreFirstsFrom set tokens (numbers_of run) from [] → RunHasTakenAmong run (numbers_of run) [] →
-        HasCome set tokens place run [] (length tokens) (length tokens)
+        HasCome set tokens cursor run [] (length tokens) (length tokens)
     HasCome-none none taken = record {
       order = omega arith;
       within = omega arith;
@@ -78,23 +78,23 @@ module _ (set : List Known) (tokens : List TokenValue) where
       taken = subst (RunHasTakenAmong run (numbers_of run)) (sym (letters_up_to-none tokens (length tokens))) taken;
       all = λ t m here. let within : t.first < length tokens = first_within t m.0 in absurd (omega arith);
       reached = λ t m after.
-          let late : begin ≤ t.first = after_begins place begin t begins after in
+          let late : begin ≤ t.first = after_begins cursor begin t begins after in
           absurd (none t m (omega arith));
       ahead = λ t m later. let within : t.first < length tokens = first_within t m.0 in absurd (omega arith);
       firsts = λ t m later. let within : t.first < length tokens = first_within t m.0 in omega arith;
     }
 
-  module _ (place : Option Triple) (run : Run) (noted : List NotedFirst) (first end : ℕ) (come : HasCome set tokens place run noted first end) where
+  module _ (cursor : Option Triple) (run : Run) (noted : List NotedFirst) (first end : ℕ) (come : HasCome set tokens cursor run noted first end) where
     -- a match of a template of a run with the same numbers
     match_of_run : (new : Run) → numbers_of new ≡ numbers_of run → (t : Triple) → IsMatchAmong set tokens (numbers_of new) t
         → IsMatchAmong set tokens (numbers_of run) t
     match_of_run new alike t (m, among) = (m, subst (λ ns. Contains ns t.template) alike among)
 
     -- one more token
-    pub HasCome-push : (new : Run) (d : TokenValue) → NoneHasRange set tokens (numbers_of run) place first end → end < length tokens
+    pub HasCome-push : (new : Run) (d : TokenValue) → NoneHasRange set tokens (numbers_of run) cursor first end → end < length tokens
         → set_of new ≡ set_of run → numbers_of new ≡ numbers_of run →
         RunHasTakenAmong new come.numbers (letters_up_to tokens first end ++ chars (get_or tokens end d).text ∷ [])
-        → HasCome set tokens place new noted first (end + 1)
+        → HasCome set tokens cursor new noted first (end + 1)
     HasCome-push new d none fits same alike taken =
         let order : first ≤ end = come.order in
         record {
@@ -145,16 +145,16 @@ module _ (set : List Known) (tokens : List TokenValue) where
         (cases_lt t.last end)
 
     -- then none is left that begins here
-    pub NoneBegins-ended : NoneHasRange set tokens (numbers_of run) place first end → AllEndBy set tokens (numbers_of run) first end
-        → NoneBegins set tokens (numbers_of run) place first
+    pub NoneBegins-ended : NoneHasRange set tokens (numbers_of run) cursor first end → AllEndBy set tokens (numbers_of run) first end
+        → NoneBegins set tokens (numbers_of run) cursor first
     NoneBegins-ended none ended t m after here =
         let enough : end ≤ t.last + 1 = (come.reached t m after).1 here in
         let short : t.last + 1 ≤ end = ended t m here in
         none t m after here (omega arith)
 
     -- where no first token is left, no match is
-    pub none_after : NoneBegins set tokens (numbers_of run) place first → noted ≡ [] → (t : Triple) → IsMatchAmong set tokens (numbers_of run) t
-        → IsAfter place t → ⊥
+    pub none_after : NoneBegins set tokens (numbers_of run) cursor first → noted ≡ [] → (t : Triple) → IsMatchAmong set tokens (numbers_of run) t
+        → IsAfter cursor t → ⊥
     none_after none empty t m after =
         let low : first ≤ t.first = (come.reached t m after).0 in
         let other : t.first ≡ first → ⊥ = none t m after in
@@ -166,8 +166,8 @@ module _ (set : List Known) (tokens : List TokenValue) where
       next_first = subst (AreFirstsFrom set tokens (numbers_of run) (first + 1)) is come.firsts
 
       -- the next first token
-      pub HasCome-next_first : (new : Run) → NoneBegins set tokens (numbers_of run) place first → set_of new ≡ set_of run → numbers_of new ≡ numbers_of run →
-          RunHasTakenAmong new (noted_with (numbers_of run) next.numbers) [] → HasCome set tokens place new more next.first next.first
+      pub HasCome-next_first : (new : Run) → NoneBegins set tokens (numbers_of run) cursor first → set_of new ≡ set_of run → numbers_of new ≡ numbers_of run →
+          RunHasTakenAmong new (noted_with (numbers_of run) next.numbers) [] → HasCome set tokens cursor new more next.first next.first
       HasCome-next_first new none same alike taken =
           let (one, past) = next_first in
           let (last, template, m) = one.begins in
@@ -190,15 +190,15 @@ module _ (set : List Known) (tokens : List TokenValue) where
             firsts = subst (λ ns. AreFirstsFrom set tokens ns (next.first + 1) more) (sym alike) past;
           }
 
-      -- some match after the place begins with it
-      pub some_begins : NoneBegins set tokens (numbers_of run) place next.first → ⊥
+      -- some match after the cursor begins with it
+      pub some_begins : NoneBegins set tokens (numbers_of run) cursor next.first → ⊥
       some_begins none =
           let one = next_first.0 in
           let (last, template, m) = one.begins in
           let later : first + 1 ≤ next.first = one.low in
           none (triple_at next.first last template) m (come.ahead (triple_at next.first last template) m (omega arith)) refl
 
-    pub NoneHasRange-empty : end ≡ 0 → NoneHasRange set tokens (numbers_of run) place first end
+    pub NoneHasRange-empty : end ≡ 0 → NoneHasRange set tokens (numbers_of run) cursor first end
     NoneHasRange-empty empty t m after here last = omega arith
 
     -- the letters of a triple with this range
@@ -210,15 +210,15 @@ module _ (set : List Known) (tokens : List TokenValue) where
       same_triple : (t : Triple) → t.first ≡ first → t.last + 1 ≡ end → triple_at first last t.template ≡ t
       same_triple t begin last' = same_parts t (triple_at first last t.template) begin (omega arith) refl
 
-      -- all numbers of this range come before the place
-      pub NoneHasRange-before : ((k : ℕ) → k < length set → IsAfter place (triple_at first last k) → ⊥)
-          → NoneHasRange set tokens (numbers_of run) place first end
+      -- all numbers of this range come before the cursor
+      pub NoneHasRange-before : ((k : ℕ) → k < length set → IsAfter cursor (triple_at first last k) → ⊥)
+          → NoneHasRange set tokens (numbers_of run) cursor first end
       NoneHasRange-before before t m after here there =
-          before t.template (slice_get_within set t.template m.0.known m.0.number) (subst (IsAfter place) (sym (same_triple t here there)) after)
+          before t.template (slice_get_within set t.template m.0.known m.0.number) (subst (IsAfter cursor) (sym (same_triple t here there)) after)
 
-      module _ (from : ℕ) (begins : (k : ℕ) → IsAfter place (triple_at first last k) ↔ (from ≤ k)) where
-        from_below : (t : Triple) → IsAfter place t → t.first ≡ first → t.last + 1 ≡ end → from ≤ t.template
-        from_below t after here there = (begins t.template).0 (subst (IsAfter place) (sym (same_triple t here there)) after)
+      module _ (from : ℕ) (begins : (k : ℕ) → IsAfter cursor (triple_at first last k) ↔ (from ≤ k)) where
+        from_below : (t : Triple) → IsAfter cursor t → t.first ≡ first → t.last + 1 ≡ end → from ≤ t.template
+        from_below t after here there = (begins t.template).0 (subst (IsAfter cursor) (sym (same_triple t here there)) after)
 
         number_of : (t : Triple) (m : IsMatch set tokens t) → slice_get (set_of run) t.template ≡ Some m.known
         number_of t m = ap (λ s. slice_get s t.template) come.templates ∙ m.number
@@ -227,7 +227,7 @@ module _ (set : List Known) (tokens : List TokenValue) where
             → IsDescribed (words_of m.known) (letters_up_to tokens first end)
         described_of t m here there = subst (IsDescribed (words_of m.known)) (same_letters t here there) m.described
 
-        pub NoneHasRange-least : IsLeastOf (set_of run) come.numbers (letters_up_to tokens first end) from None → NoneHasRange set tokens (numbers_of run) place first end
+        pub NoneHasRange-least : IsLeastOf (set_of run) come.numbers (letters_up_to tokens first end) from None → NoneHasRange set tokens (numbers_of run) cursor first end
         NoneHasRange-least none t m after here there =
             none (t.template + 1) t.template m.0.known (come.all t m here) (from_below t after here there) (omega arith)
             (number_of t m.0) (described_of t m.0 here there)
@@ -243,7 +243,7 @@ module _ (set : List Known) (tokens : List TokenValue) where
             (cases_lt first end)
 
         pub IsNext-least : (k : ℕ) → IsLeastOf (set_of run) come.numbers (letters_up_to tokens first end) from (Some k)
-            → IsNext (IsMatchAmong set tokens (numbers_of run)) place (triple_at first last k)
+            → IsNext (IsMatchAmong set tokens (numbers_of run)) cursor (triple_at first last k)
         IsNext-least k (inside, low, (known, number, described), fewer) =
             let some : first < end = begun known described in
             let within : end ≤ length tokens = come.within in

@@ -31,19 +31,19 @@ is_matching set tokens t = nat_le t.first t.last
 abbrev pub matches_of : List Known → List TokenValue → List Triple
 matches_of set tokens = filter (is_matching set tokens) (all_triples (length tokens) (length set))
 
--- whether a triple comes after a place, if there is one
+-- whether a triple comes after a cursor, if there is one
 abbrev pub is_after : Option Triple → Triple → Bool
 is_after None t = true
-is_after (Some place) t = precedes place t
+is_after (Some cursor) t = precedes cursor t
 
--- the matches after a place, or all of them
+-- the matches after a cursor, or all of them
 unfoldable pub matches_after : List Known → List TokenValue → Option Triple → List Triple
-matches_after set tokens place = filter (is_after place) (matches_of set tokens)
+matches_after set tokens cursor = filter (is_after cursor) (matches_of set tokens)
 
 -- whether the template of a triple has one of these numbers
 abbrev pub is_among : List ℕ → Triple → Bool
 is_among numbers t = list_any (λ n. t.template == n) numbers
 
--- the matches after a place, or all of them, of the templates of these numbers
+-- the matches after a cursor, or all of them, of the templates of these numbers
 unfoldable pub matches_among : List Known → List TokenValue → List ℕ → Option Triple → List Triple
-matches_among set tokens numbers place = filter (is_among numbers) (matches_after set tokens place)
+matches_among set tokens numbers cursor = filter (is_among numbers) (matches_after set tokens cursor)

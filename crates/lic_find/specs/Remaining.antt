@@ -32,26 +32,26 @@ began_after f = f.began
 abbrev pub last_given : Finder → Option Triple
 last_given f = f.given
 
--- its place: the last triple that it gave, or where it began
-abbrev pub place_of : Finder → Option Triple
-place_of f = option_or f.given f.began
+-- its cursor: the last triple that it gave, or where it began
+abbrev pub cursor_of : Finder → Option Triple
+cursor_of f = option_or f.given f.began
 
--- the matches of its templates after its place
+-- the matches of its templates after its cursor
 abbrev pub remaining_matches : Finder → List Triple
-remaining_matches f = matches_among f.set.now f.text.now.tokens (numbers_of f.run) (place_of f)
+remaining_matches f = matches_among f.set.now f.text.now.tokens (numbers_of f.run) (cursor_of f)
 
 -- the steps of the reverse scan that noted first tokens and those of its run, together at most the greatest `u64`
 abbrev pub steps_taken : Finder → ℕ
 steps_taken f = min (f.noting + steps_of f.run) (2 ^ 64 - 1)
 
 -- a finder of these templates and tokens that has given nothing yet
-pub record IsBegun (f : Finder) (set : List Known) (tokens : List TokenValue) (place : Option Triple) : Type 0 where
+pub record IsBegun (f : Finder) (set : List Known) (tokens : List TokenValue) (cursor : Option Triple) : Type 0 where
   pub templates : set_in f ≡ set
   pub text : tokens_in f ≡ tokens
-  pub began : began_after f ≡ place
+  pub began : began_after f ≡ cursor
   pub given : last_given f ≡ None
 
--- of the same templates and tokens, begun at the same place, with the run from the same first token
+-- of the same templates and tokens, begun at the same cursor, with the run from the same first token
 pub record IsInSameScan (f g : Finder) : Type 0 where
   pub set : g.set ≡ f.set
   pub text : g.text ≡ f.text

@@ -50,7 +50,7 @@ pub struct Finder<'a> {
 }
 
 impl<'a> Finder<'a> {
-    ghost use Rattle.lic_find.specs.Remaining.{HasAllMatches, IsBegun, IsInSameScan, numbers_in, place_of, remaining_matches, set_in, steps_taken, tokens_in};
+    ghost use Rattle.lic_find.specs.Remaining.{HasAllMatches, IsBegun, IsInSameScan, numbers_in, cursor_of, remaining_matches, set_in, steps_taken, tokens_in};
 
     /// All matches. Fails if memory runs out.
     ///
@@ -135,30 +135,30 @@ impl<'a> Finder<'a> {
         self.noting.saturating_add(self.run.steps())
     }
 
-    // The least number with which the range up to this last token comes after the place.
+    // The least number with which the range up to this last token comes after the cursor.
     fn least_number(&self, last: usize) -> Option<usize>
         ensures some { IfSome result (λ from. (k : ℕ)
-            → IsAfter (place_of self.now) (triple_at self.now.first last k) ↔ (from ≤ k)) }
+            → IsAfter (cursor_of self.now) (triple_at self.now.first last k) ↔ (from ≤ k)) }
         ensures none { IfNone result ((k : ℕ) → k < length self.now.set.now
-            → ¬ (IsAfter (place_of self.now) (triple_at self.now.first last k))) }
+            → ¬ (IsAfter (cursor_of self.now) (triple_at self.now.first last k))) }
     {
-        let Some(place) = self.given.or(self.began) else {
+        let Some(cursor) = self.given.or(self.began) else {
             return Some(0);
         };
-        match (self.first, last).cmp(&(place.first, place.last)) {
+        match (self.first, last).cmp(&(cursor.first, cursor.last)) {
             Ordering::Greater => Some(0),
-            Ordering::Equal if place.template < self.set.len() => Some(place.template + 1),
+            Ordering::Equal if cursor.template < self.set.len() => Some(cursor.template + 1),
             _ => None,
         }
     }
 
-    // The first match after the place, if it has the range that the run has come to.
+    // The first match after the cursor, if it has the range that the run has come to.
     fn accepted(&self) -> Option<Triple>
         ensures { HasCome self.now.set.now self.now.text.now.tokens
-            (place_of self.now) self.now.run (starts_in self.now.starts)
+            (cursor_of self.now) self.now.run (starts_in self.now.starts)
             self.now.first self.now.end
             → IsNextOfRange self.now.set.now self.now.text.now.tokens
-            (numbers_in self.now) (place_of self.now) self.now.first self.now.end result }
+            (numbers_in self.now) (cursor_of self.now) self.now.first self.now.end result }
     {
         let last = self.end.checked_sub(1)?;
         let from = self.least_number(last)?;
@@ -175,7 +175,7 @@ impl<'a> Finder<'a> {
         ensures some { IfSome result (λ triple. remaining_matches self.old ≡ triple ∷ remaining_matches self.new) }
         ensures none { IfNone result
             (NoneBegins self.new.set.now self.new.text.now.tokens (numbers_in self.new)
-            (place_of self.new) self.new.first) }
+            (cursor_of self.new) self.new.first) }
         ensures ended { IfNone result
             (AllEndBy self.new.set.now self.new.text.now.tokens (numbers_in self.new) self.new.first self.new.end) }
         ensures rest { IfNone result (remaining_matches self.new ≡ remaining_matches self.old) }
@@ -213,11 +213,11 @@ fn candidate_numbers(alloc: Global, set: &Set, text: &Text) -> Result<Vec<usize>
         .collect(alloc)
 }
 
-// The first token with which a range after a place can begin.
-fn first_token(place: Option<Triple>) -> usize
-    ensures { BeginsAt place result }
+// The first token with which a range after a cursor can begin.
+fn first_token(cursor: Option<Triple>) -> usize
+    ensures { BeginsAt cursor result }
 {
-    place.map_or(0, |triple| triple.first)
+    cursor.map_or(0, |triple| triple.first)
 }
 
 // Takes the least noted first token that is left, and begins a run there over the templates that are noted with it.

@@ -77,23 +77,23 @@ are_both a b o k on =
 
 -- ---- a list of masks, one of them with more bits
 
-module _ (masks : List ℕ) (place more : ℕ) (inside : place < length masks) where
+module _ (masks : List ℕ) (slot more : ℕ) (inside : slot < length masks) where
   abbrev pub with_bits : List ℕ
-  with_bits = set masks place (bit_or (get_or masks place 0) more)
+  with_bits = set masks slot (bit_or (get_or masks slot 0) more)
 
-  pub bits_are_there : (j : ℕ) → has_bit more j ≡ true → has_bit (get_or with_bits place 0) j ≡ true
+  pub bits_are_there : (j : ℕ) → has_bit more j ≡ true → has_bit (get_or with_bits slot 0) j ≡ true
   bits_are_there j on =
-      ap (λ m. has_bit m j) (get_or-set_same masks place (bit_or (get_or masks place 0) more) 0 inside)
-      ∙ has_bit_or (get_or masks place 0) more j ∙ or_right (has_bit (get_or masks place 0) j) (has_bit more j) on
+      ap (λ m. has_bit m j) (get_or-set_same masks slot (bit_or (get_or masks slot 0) more) 0 inside)
+      ∙ has_bit_or (get_or masks slot 0) more j ∙ or_right (has_bit (get_or masks slot 0) j) (has_bit more j) on
 
   pub bits_stay : (k j : ℕ) → has_bit (get_or masks k 0) j ≡ true → has_bit (get_or with_bits k 0) j ≡ true
-  bits_stay k j on = elim (cases_eq k place) [
+  bits_stay k j on = elim (cases_eq k slot) [
     | inl same ↦
         ap (λ n. has_bit (get_or with_bits n 0) j) same
-        ∙ ap (λ m. has_bit m j) (get_or-set_same masks place (bit_or (get_or masks place 0) more) 0 inside)
-        ∙ has_bit_or (get_or masks place 0) more j
-        ∙ or_left (has_bit (get_or masks place 0) j) (has_bit more j) (ap (λ n. has_bit (get_or masks n 0) j) (sym same) ∙ on)
-    | inr other ↦ ap (λ m. has_bit m j) (get_or-set_other masks place k (bit_or (get_or masks place 0) more) 0 other) ∙ on
+        ∙ ap (λ m. has_bit m j) (get_or-set_same masks slot (bit_or (get_or masks slot 0) more) 0 inside)
+        ∙ has_bit_or (get_or masks slot 0) more j
+        ∙ or_left (has_bit (get_or masks slot 0) j) (has_bit more j) (ap (λ n. has_bit (get_or masks n 0) j) (sym same) ∙ on)
+    | inr other ↦ ap (λ m. has_bit m j) (get_or-set_other masks slot k (bit_or (get_or masks slot 0) more) 0 other) ∙ on
   ]
 
 -- ---- the first two characters of a text

@@ -4,7 +4,7 @@ use Rattle.std.specs.Str.{chars}
 use Rattle.lic_kind.specs.declared.rule_text.RuleText.{RuleText}
 use Rattle.std.proofs.lemmas.List.{get_or-map}
 
--- two forms of the same elements are the same at each place
+-- two forms of the same elements are the same at each slot
 pub same_at : {A : Type 0} (f g : A → List ℕ) (xs : List A) (i : ℕ) (d : A) → map f xs ≡ map g xs → i < length xs → f (get_or xs i d) ≡ get_or (map g xs) i []
 same_at f g xs i d same within = sym (get_or-map f xs i d [] within) ∙ ap (λ l. get_or l i []) same
 

@@ -32,9 +32,9 @@ HasSomeFront mask c d texts = (i : ℕ) → i < length texts → may_begin c d (
 abbrev pub HasSomeEnd : ℕ → ℕ → ℕ → List (List ℕ) → Type 0
 HasSomeEnd mask c d texts = (i : ℕ) → i < length texts → may_begin c d (reverse (slice_index_or texts i [])) ≡ true → mask ≢ 0
 
--- the place of a character in a table
-abbrev pub place_of : ℕ → ℕ
-place_of c = min c 255
+-- the slot of a character in a table
+abbrev pub slot_of : ℕ → ℕ
+slot_of c = min c 255
 
 -- the bit of text i of a kind whose texts have the bits from this one on
 abbrev pub bit_of : ℕ → ℕ → ℕ
@@ -42,7 +42,7 @@ bit_of from i = min (from + i) 63
 
 -- the bits of the texts that begin with these two characters
 abbrev pub begun : Beginnings → ℕ → ℕ → ℕ
-begun b c d = bit_and (slice_index b.firsts (place_of c)) (bit_or (slice_index b.seconds (place_of d)) b.alone)
+begun b c d = bit_and (slice_index b.firsts (slot_of c)) (bit_or (slice_index b.seconds (slot_of d)) b.alone)
 
 -- the tables have a text by this bit
 abbrev pub IsKnown : Beginnings → ℕ → List ℕ → Type 0

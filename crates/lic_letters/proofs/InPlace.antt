@@ -1,4 +1,4 @@
--- What is put in the place of a character, byte for byte.
+-- What is put in place of a character, byte for byte.
 use Rattle.std.proofs.Common.{◌≡◌, ℕ, zero, suc, ◌<◌, ◌≤◌, Bool, true, false, not, ◌&&◌, ◌||◌, List, [], ◌∷◌, length, get_or, inl, inr, refl, sym, ap, ap₂, ◌∙◌, arith}
 use Rattle.std.specs.Prelude.{encode_utf8_all, replicate, nat_lt}
 use Rattle.std.specs.Char.{encode_utf8, len_utf8}
@@ -52,7 +52,7 @@ all_own (b ∷ bs) h = ((high_word b h.0, high_letter b h.0), all_own bs h.1)
 pub encoded_own : (c : ℕ) → 128 ≤ c → AllByRecursion IsOwnLetter (encode_utf8 c)
 encoded_own c big = all_own (encode_utf8 c) (encoded_high c big)
 
--- ---- what is put in the place of a character beyond ASCII
+-- ---- what is put in place of a character beyond ASCII
 
 pub letter_in_place : (c : ℕ) → 128 ≤ c → kind_of c ≡ kind.Word → in_place c ≡ encode_utf8_all (spell c)
 letter_in_place c big word = cond-false (nat_lt c 128) _ _ (le-ltb c 128 big) ∙ ap (λ k. in_place_of k c) word
@@ -71,8 +71,8 @@ pub size-replicate : (n v : ℕ) → length (replicate n v) ≡ n
 size-replicate zero v = refl
 size-replicate (suc n) v = ap suc (size-replicate n v)
 
-place_size : (c : ℕ) → IsSimple c → length (in_place c) ≡ len_utf8 c
-place_size c simple = elim (cases_lt c 128) [
+offset_size : (c : ℕ) → IsSimple c → length (in_place c) ≡ len_utf8 c
+offset_size c simple = elim (cases_lt c 128) [
   | inl small ↦
       let own : in_place c ≡ c ∷ [] = cond-true (nat_lt c 128) _ _ (lt-ltb c 128 small) in
       ap length own ∙ sym (len_utf8_ascii c small)
@@ -91,14 +91,14 @@ place_size c simple = elim (cases_lt c 128) [
   ]
 ]
 
-pub places_size : (cs : List ℕ) → AreSimple cs → length (encode_utf8_all cs) ≡ length (all_in_place cs)
-places_size [] are = refl
-places_size (c ∷ cs) are =
+pub offsets_size : (cs : List ℕ) → AreSimple cs → length (encode_utf8_all cs) ≡ length (all_in_place cs)
+offsets_size [] are = refl
+offsets_size (c ∷ cs) are =
     omega (
       arith,
       length-append (encode_utf8 c) (encode_utf8_all cs),
       length-append (in_place c) (all_in_place cs),
       length-encode c,
-      place_size c are.0,
-      places_size cs are.2,
+      offset_size c are.0,
+      offsets_size cs are.2,
     )

@@ -1,4 +1,4 @@
--- Vectors of 16 bytes, lane by lane, and the lowest place without a bit.
+-- Vectors of 16 bytes, lane by lane, and the lowest lane without a bit.
 use Rattle.std.proofs.Common.{◌≡◌, ℕ, ◌+◌, ◌-◌, ◌*◌, ◌/◌, ◌%◌, ◌^◌, ◌<◌, ◌≤◌, Bool, true, false, not, ◌==◌, List, map, length, get_or, replicate, bit_and, refl, sym, ap, ◌∙◌, arith, inl, inr, ltb, w8, w64, Fits}
 use Rattle.std.specs.Int.{bit_not, trailing_zeros}
 use Rattle.std.proofs.lemmas.Bool.{agree_below_at, cases_eq}
@@ -49,7 +49,7 @@ high_fits v fits =
     SwzOk-from_below w8 16 1 16 0 (zip2 down v (replicate 16 4)) refl (omega (arith, length-zip2 down v (replicate 16 4) fits.0))
     (Each1-zip2 down (λ j. j < 16) v (replicate 16 4) (Each2-splat (λ a b. down a b < 16) v 16 4 small))
 
--- a table of sixteen entries, read at places g x below 16
+-- a table of sixteen entries, read at offsets g x below 16
 found : (t : List ℕ) (g : ℕ → ℕ) (v js : List ℕ) → AreSixteen v → js ≡ map g v → ((x : ℕ) → x < 256 → g x < 16)
     → swz_l w8 16 t 0 js ≡ map (λ x. get_or t (g x) 0) v
 found t g v js fits e small =
@@ -59,9 +59,9 @@ found t g v js fits e small =
     let within : i < length v = omega (arith, fits.0) in
     let is : get_or js i 0 ≡ g (get_or v i 0) = ap (λ l. get_or l i 0) e ∙ get_or-map g v i 0 0 within in
     let small_here : get_or js i 0 < 16 = omega (arith, small (get_or v i 0) (lane_fits v i fits.1)) in
-    let place : 16 * ((0 + i) / 16) + get_or js i 0 ≡ g (get_or v i 0) = omega (arith, lt, is) in
+    let slot : 16 * ((0 + i) / 16) + get_or js i 0 ≡ g (get_or v i 0) = omega (arith, lt, is) in
     get_or-swz_l_below w8 16 t 0 js i (omega arith) small_here
-    ∙ ap (λ k. get_or t k 0) place ∙ sym (get_or-map (λ x. get_or t (g x) 0) v i 0 0 within))
+    ∙ ap (λ k. get_or t k 0) slot ∙ sym (get_or-map (λ x. get_or t (g x) 0) v i 0 0 within))
 
 pub classes_are : (low high v : List ℕ) → AreSixteen v
     → zip2 bit_and (swz_l w8 16 low 0 (zip2 bit_and v (replicate 16 15))) (swz_l w8 16 high 0 (zip2 down v (replicate 16 4))) ≡ map (class_in low high) v
@@ -70,7 +70,7 @@ classes_are low high v fits =
     (found low (λ x. bit_and x 15) v _ fits (zip2_splat bit_and v 16 15 fits.0) (λ x h. omega (arith, and_le_r x 15)))
     (found high (λ x. x / 16) v _ fits (zip2_splat down v 16 4 fits.0) (λ x h. omega arith))
 
--- ---- the lowest place without a bit
+-- ---- the lowest lane without a bit
 
 some_bit : (m k : ℕ) → has_bit m k ≡ true → 0 < m
 some_bit m k is = elim (cases_eq m 0) [

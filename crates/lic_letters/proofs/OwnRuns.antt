@@ -10,7 +10,7 @@ use Rattle.lic_letters.proofs.OwnLetters.{two_own, three_own, two_leads, three_l
 use Rattle.lic_letters.proofs.SpelledFronts.{none_own, one_own, own_on}
 use Rattle.lic_trim.specs.PieceLengths.{has_bit}
 
--- at each of the first n places is a byte of ASCII, or one of the w bytes of a letter; none of these are cut off
+-- at each of the first n offsets is a byte of ASCII, or one of the w bytes of a letter; none of these are cut off
 module _ (bytes : List ℕ) (w n : ℕ) (low begin : ℕ → Bool) (some : 0 < w)
     (is_low : (i : ℕ) → low i ≡ true → (i < length bytes) × (get_or bytes i 0 < 128))
     (is_letter : (i : ℕ) → begin i ≡ true → AreOwn (drop i bytes) w)
@@ -18,33 +18,33 @@ module _ (bytes : List ℕ) (w n : ℕ) (low begin : ℕ → Bool) (some : 0 < w
     (apart : (i j : ℕ) → begin i ≡ true → 0 < j → j < w → begin (i + j) ≡ false)
     (covered : (i : ℕ) → i < n → (low i ≡ true) ⊎ ((j : ℕ) × (j < w) × (j ≤ i) × (begin (i - j) ≡ true)))
     (whole : (i : ℕ) → i < n → begin i ≡ true → i + w ≤ n) where
-  -- no letter begins so shortly before this place that it goes on there
+  -- no letter begins so shortly before this lane that it goes on there
   abbrev Parts : ℕ → Type 0
   Parts p = (j : ℕ) → 0 < j → j < w → j ≤ p → begin (p - j) ≡ false
 
   byte_own : (p : ℕ) → low p ≡ true → AreOwn (drop p bytes) 1
   byte_own p is =
       let here = is_low p is in
-      let place : p + 0 ≡ p = omega arith in
-      let same : get_or (drop p bytes) 0 0 ≡ get_or bytes p 0 = get_or-drop p bytes 0 0 ∙ ap (λ k. get_or bytes k 0) place in
+      let slot : p + 0 ≡ p = omega arith in
+      let same : get_or (drop p bytes) 0 0 ≡ get_or bytes p 0 = get_or-drop p bytes 0 0 ∙ ap (λ k. get_or bytes k 0) slot in
       one_own (drop p bytes) (omega (arith, length-drop p bytes, here.0)) (omega (arith, same, here.1))
 
   after_low : (p : ℕ) → low p ≡ true → Parts p → Parts (p + 1)
   after_low p is parts j more few within = elim (cases_eq j 1) [
-    | inl one ↦ let place : p + 1 - j ≡ p = omega (arith, one) in ap begin place ∙ low_apart p is
+    | inl one ↦ let slot : p + 1 - j ≡ p = omega (arith, one) in ap begin slot ∙ low_apart p is
     | inr other ↦
-        let place : p + 1 - j ≡ p - (j - 1) = omega (arith, more) in
-        ap begin place ∙ parts (j - 1) (omega (arith, other, more)) (omega (arith, few)) (omega (arith, within))
+        let slot : p + 1 - j ≡ p - (j - 1) = omega (arith, more) in
+        ap begin slot ∙ parts (j - 1) (omega (arith, other, more)) (omega (arith, few)) (omega (arith, within))
   ]
 
   after_letter : (p : ℕ) → begin p ≡ true → Parts (p + w)
   after_letter p is j more few within =
-      let place : p + w - j ≡ p + (w - j) = omega (arith, few) in
-      ap begin place ∙ apart p (w - j) is (omega (arith, few)) (omega (arith, more, few))
+      let slot : p + w - j ≡ p + (w - j) = omega (arith, few) in
+      ap begin slot ∙ apart p (w - j) is (omega (arith, few)) (omega (arith, more, few))
 
   begins_here : (p j : ℕ) → Parts p → j < w → j ≤ p → begin (p - j) ≡ true → begin p ≡ true
   begins_here p j parts few within is = elim (cases_eq j 0) [
-    | inl none ↦ let place : p ≡ p - j = omega (arith, none) in ap begin place ∙ is
+    | inl none ↦ let slot : p ≡ p - j = omega (arith, none) in ap begin slot ∙ is
     | inr more ↦ absurd (let clash : false ≡ true = sym (parts j (omega (arith, more)) few within) ∙ is in cc)
   ]
 
@@ -88,12 +88,12 @@ record IsLetterAt (bytes : List ℕ) (w i : ℕ) : Type 0 where
   own : AreOwn (drop i bytes) w
   rest : (j : ℕ) → 0 < j → j < w → get_or bytes (i + j) 0 ≤ 191
 
--- a byte of ASCII is at place i, or a letter that begins at most w - 1 places before it
+-- a byte of ASCII is in lane i, or a letter that begins at most w - 1 offsets before it
 abbrev Covers : ℕ → ℕ → ℕ → ℕ → Type 0
 Covers w ascii begins i = (has_bit ascii i ≡ true) ⊎ ((j : ℕ) × (j < w) × (j ≤ i) × (has_bit begins (i - j) ≡ true))
 
 covers_here : (w ascii begins i : ℕ) → 0 < w → has_bit begins i ≡ true → Covers w ascii begins i
-covers_here w ascii begins i some is = let place : i - 0 ≡ i = omega arith in inr (0, some, omega arith, ap (has_bit begins) place ∙ is)
+covers_here w ascii begins i some is = let slot : i - 0 ≡ i = omega arith in inr (0, some, omega arith, ap (has_bit begins) slot ∙ is)
 
 module _ (bytes first : List ℕ) (w ascii begins known n : ℕ) (some : 0 < w) (long : 18 ≤ length bytes)
     (firsts : (i : ℕ) → i < 16 → get_or first i 0 ≡ get_or bytes (0 + i) 0)
@@ -106,8 +106,8 @@ module _ (bytes first : List ℕ) (w ascii begins known n : ℕ) (some : 0 < w) 
   low_byte : (i : ℕ) → has_bit ascii i ≡ true → (i < length bytes) × (get_or bytes i 0 < 128)
   low_byte i is =
       let few : i < 16 = bit_off ascii i (ascii_above i) is in
-      let place : 0 + i ≡ i = omega arith in
-      let same : get_or first i 0 ≡ get_or bytes i 0 = firsts i few ∙ ap (λ k. get_or bytes k 0) place in
+      let slot : 0 + i ≡ i = omega arith in
+      let same : get_or first i 0 ≡ get_or bytes i 0 = firsts i few ∙ ap (λ k. get_or bytes k 0) slot in
       let low : get_or first i 0 < 128 = ltb-true (get_or first i 0) 128 (sym (ascii_bits i few) ∙ is) in
       (omega (arith, few, long), omega (arith, same, low))
 
@@ -124,9 +124,9 @@ module _ (bytes first : List ℕ) (w ascii begins known n : ℕ) (some : 0 < w) 
   whole_letter : (i : ℕ) → i < n → has_bit begins i ≡ true → i + w ≤ n
   whole_letter i inside is = elim (cases_lt n (i + w)) [
     | inl cut ↦
-        let place : i + (n - i) ≡ n = omega (arith, inside) in
+        let slot : i + (n - i) ≡ n = omega (arith, inside) in
         let few : n - i < w = omega (arith, cut, inside) in
-        absurd (let clash : false ≡ true = sym zero_at ∙ ap (has_bit known) (sym place) ∙ fills i (n - i) is few in cc)
+        absurd (let clash : false ≡ true = sym zero_at ∙ ap (has_bit known) (sym slot) ∙ fills i (n - i) is few in cc)
     | inr not ↦ not
   ]
 
@@ -135,7 +135,7 @@ module _ (bytes first : List ℕ) (w ascii begins known n : ℕ) (some : 0 < w) 
       run_own bytes w n (has_bit ascii) (has_bit begins) some low_byte (λ i is. (letters i is).own) low_is_none rest_is_none
       (λ i inside. covers i (omega (arith, inside, within)) (below i inside)) whole_letter
 
--- a mask moved up by one place
+-- a mask moved up by one lane
 record IsMoved (from to : ℕ) : Type 0 where
   first : has_bit to 0 ≡ false
   rest : (i : ℕ) → suc i < 64 → has_bit to (suc i) ≡ has_bit from i
@@ -143,8 +143,8 @@ record IsMoved (from to : ℕ) : Type 0 where
 moved_from : (from to i : ℕ) → IsMoved from to → i < 64 → has_bit to i ≡ true → (1 ≤ i) × (has_bit from (i - 1) ≡ true)
 moved_from from to zero moved few is = absurd (let clash : false ≡ true = sym moved.first ∙ is in cc)
 moved_from from to (suc i) moved few is =
-    let place : suc i - 1 ≡ i = omega arith in
-    (omega arith, ap (has_bit from) place ∙ sym (moved.rest i few) ∙ is)
+    let slot : suc i - 1 ≡ i = omega arith in
+    (omega arith, ap (has_bit from) slot ∙ sym (moved.rest i few) ∙ is)
 
 abbrev moved_up : ℕ → ℕ
 moved_up mask = mask * 2 ^ 1 % 2 ^ 64
@@ -195,8 +195,8 @@ module _ (bytes first second : List ℕ) (ascii begins n : ℕ) (long : 18 ≤ l
         lead = omega (arith, leads.0);
         own = two_own (drop i bytes) (omega (arith, length-drop i bytes, few, long)) (omega (arith, a, small i)) (omega (arith, b, small (i + 1)))
             (ap₂ begins_two a b ∙ both);
-        rest = λ j more less. let place : i + j ≡ i + 1 = omega (arith, more, less) in
-            let same : get_or bytes (i + j) 0 ≡ get_or bytes (i + 1) 0 = ap (λ k. get_or bytes k 0) place in omega (arith, same, leads.1);
+        rest = λ j more less. let slot : i + j ≡ i + 1 = omega (arith, more, less) in
+            let same : get_or bytes (i + j) 0 ≡ get_or bytes (i + 1) 0 = ap (λ k. get_or bytes k 0) slot in omega (arith, same, leads.1);
       }
 
   two_covers : (i : ℕ) → i < 64 → has_bit two_known i ≡ true → Covers 2 ascii begins i
@@ -211,13 +211,13 @@ module _ (bytes first second : List ℕ) (ascii begins n : ℕ) (long : 18 ≤ l
 
   two_fills : (i j : ℕ) → has_bit begins i ≡ true → j < 2 → has_bit two_known (i + j) ≡ true
   two_fills i zero is few =
-      let place : i + 0 ≡ i = omega arith in
-      ap (has_bit two_known) place ∙ two_known_is i ∙ ap (λ t. (has_bit ascii i || t) || has_bit moved i) is
+      let slot : i + 0 ≡ i = omega arith in
+      ap (has_bit two_known) slot ∙ two_known_is i ∙ ap (λ t. (has_bit ascii i || t) || has_bit moved i) is
       ∙ ap (λ t. t || has_bit moved i) (or-true (has_bit ascii i))
   two_fills i (suc zero) is few =
-      let place : i + 1 ≡ suc i = omega arith in
+      let slot : i + 1 ≡ suc i = omega arith in
       let low : i < 16 = bit_off begins i (two_above i) is in
-      ap (has_bit two_known) place ∙ two_known_is (suc i)
+      ap (has_bit two_known) slot ∙ two_known_is (suc i)
       ∙ ap (λ t. (has_bit ascii (suc i) || has_bit begins (suc i)) || t) ((moved_is begins).rest i (omega (arith, low)) ∙ is)
       ∙ or-true (has_bit ascii (suc i) || has_bit begins (suc i))
   two_fills i (suc (suc j)) is few = absurd (omega (arith, few))
@@ -308,25 +308,25 @@ module _ (bytes first second third : List ℕ) (ascii starts ons n : ℕ) (long 
     | inr past ↦
         let from = moved_from seconds thirds i (moved_is seconds) few past in
         let before = moved_from three_begins seconds (i - 1) (moved_is three_begins) (omega (arith, few)) from.1 in
-        let place : i - 2 ≡ i - 1 - 1 = omega arith in
-        inr (2, omega arith, omega (arith, from.0, before.0), ap (has_bit three_begins) place ∙ before.1)
+        let slot : i - 2 ≡ i - 1 - 1 = omega arith in
+        inr (2, omega arith, omega (arith, from.0, before.0), ap (has_bit three_begins) slot ∙ before.1)
   ]
 
   three_fills : (i j : ℕ) → has_bit three_begins i ≡ true → j < 3 → has_bit three_known (i + j) ≡ true
   three_fills i zero is few =
-      let place : i + 0 ≡ i = omega arith in
-      ap (has_bit three_known) place ∙ three_known_is i ∙ ap (λ t. ((has_bit ascii i || t) || has_bit seconds i) || has_bit thirds i) is
+      let slot : i + 0 ≡ i = omega arith in
+      ap (has_bit three_known) slot ∙ three_known_is i ∙ ap (λ t. ((has_bit ascii i || t) || has_bit seconds i) || has_bit thirds i) is
       ∙ ap (λ t. (t || has_bit seconds i) || has_bit thirds i) (or-true (has_bit ascii i))
   three_fills i (suc zero) is few =
-      let place : i + 1 ≡ suc i = omega arith in
+      let slot : i + 1 ≡ suc i = omega arith in
       let low : i < 16 = bit_off three_begins i (begins_above i) is in
-      ap (has_bit three_known) place ∙ three_known_is (suc i)
+      ap (has_bit three_known) slot ∙ three_known_is (suc i)
       ∙ ap (λ t. ((has_bit ascii (suc i) || has_bit three_begins (suc i)) || t) || has_bit thirds (suc i)) ((moved_is three_begins).rest i (omega (arith, low)) ∙ is)
       ∙ ap (λ t. t || has_bit thirds (suc i)) (or-true (has_bit ascii (suc i) || has_bit three_begins (suc i)))
   three_fills i (suc (suc zero)) is few =
-      let place : i + 2 ≡ suc (suc i) = omega arith in
+      let slot : i + 2 ≡ suc (suc i) = omega arith in
       let low : i < 16 = bit_off three_begins i (begins_above i) is in
-      ap (has_bit three_known) place ∙ three_known_is (suc (suc i))
+      ap (has_bit three_known) slot ∙ three_known_is (suc (suc i))
       ∙ ap (λ t. ((has_bit ascii (suc (suc i)) || has_bit three_begins (suc (suc i))) || has_bit seconds (suc (suc i))) || t)
       ((moved_is seconds).rest (suc i) (omega (arith, low)) ∙ (moved_is three_begins).rest i (omega (arith, low)) ∙ is)
       ∙ or-true ((has_bit ascii (suc (suc i)) || has_bit three_begins (suc (suc i))) || has_bit seconds (suc (suc i)))

@@ -92,21 +92,21 @@ module _ (text front : List ℕ) (utf8 : IsUtf8 text) (ends : text ≡ front ++ 
   ended_chars = ap chars ends ∙ chars-append front (0x0A ∷ []) front_utf8 ∙ ap (λ l. chars front ++ l) feed_chars
 
 -- a first U+000A ends a line
-pub found_line : (bytes : List ℕ) (place : ℕ) → IsFirstByte (is_byte 0x0A) bytes (Some place)
-    → (take (place + 1) bytes ≡ take place bytes ++ 0x0A ∷ []) × All (λ c. c ≢ 0x0A) (take place bytes)
-found_line bytes place h =
-    let lt : place < length bytes = h.0.high in
-    let at : get_or bytes place 0 ≡ 0x0A = eqb-true (get_or bytes place 0) 0x0A h.1 in
-    let front = take place bytes in
+pub found_line : (bytes : List ℕ) (slot : ℕ) → IsFirstByte (is_byte 0x0A) bytes (Some slot)
+    → (take (slot + 1) bytes ≡ take slot bytes ++ 0x0A ∷ []) × All (λ c. c ≢ 0x0A) (take slot bytes)
+found_line bytes slot h =
+    let lt : slot < length bytes = h.0.high in
+    let at : get_or bytes slot 0 ≡ 0x0A = eqb-true (get_or bytes slot 0) 0x0A h.1 in
+    let front = take slot bytes in
     let none : HasNoFeed front = λ k less is.
-    let inside : k < place = omega (arith, length-take-le place bytes (omega arith)) in
-    h.0.before k (omega arith) inside (eq-eqb _ _ (sym (get_or-take place bytes k 0 inside) ∙ is)) in
-    (take_more bytes place 0 lt ∙ ap (λ b. front ++ b ∷ []) at, All-from_get_or (λ c. c ≢ 0x0A) front 0 none)
+    let inside : k < slot = omega (arith, length-take-le slot bytes (omega arith)) in
+    h.0.before k (omega arith) inside (eq-eqb _ _ (sym (get_or-take slot bytes k 0 inside) ∙ is)) in
+    (take_more bytes slot 0 lt ∙ ap (λ b. front ++ b ∷ []) at, All-from_get_or (λ c. c ≢ 0x0A) front 0 none)
 
-pub feed_found : (bytes : List ℕ) (place : ℕ) → IsFirstByte (is_byte 0x0A) bytes (Some place) → get_or bytes (place + 1 - 1) 0 ≡ 0x0A
-feed_found bytes place h =
-    let same : place + 1 - 1 ≡ place = omega arith in
-    ap (λ i. get_or bytes i 0) same ∙ eqb-true (get_or bytes place 0) 0x0A h.1
+pub feed_found : (bytes : List ℕ) (slot : ℕ) → IsFirstByte (is_byte 0x0A) bytes (Some slot) → get_or bytes (slot + 1 - 1) 0 ≡ 0x0A
+feed_found bytes slot h =
+    let same : slot + 1 - 1 ≡ slot = omega arith in
+    ap (λ i. get_or bytes i 0) same ∙ eqb-true (get_or bytes slot 0) 0x0A h.1
 
 -- a line ends in U+000A: in a text in UTF-8 that goes on after it, it is in UTF-8 by itself
 pub line_utf8 : (bytes rest : List ℕ) (at n done : ℕ) → rest ≡ drop at bytes → 0 < n → at + n ≤ done → done ≤ length bytes
@@ -118,21 +118,21 @@ line_utf8 bytes rest at n done same some le within utf8 before feed =
     let in_bytes : get_or bytes last 0 ≡ 0x0A = sym (get_or-drop at bytes (n - 1) 0) ∙ ap (λ l. get_or l (n - 1) 0) (sym same) ∙ feed in
     let in_text : get_or text last 0 ≡ 0x0A = get_or-take done bytes last 0 (omega (arith, some, le)) ∙ in_bytes in
     let long : length text ≡ done = length-take-le done bytes within in
-    let place : last + 1 ≡ at + n = omega (arith, some) in
+    let slot : last + 1 ≡ at + n = omega (arith, some) in
     let end : IsCharBoundary text (at + n) =
-    subst (IsCharBoundary text) place (IsCharBoundary-after_ascii text last utf8 (omega (arith, some, le, long)) (omega (arith, in_text))) in
+    subst (IsCharBoundary text) slot (IsCharBoundary-after_ascii text last utf8 (omega (arith, some, le, long)) (omega (arith, in_text))) in
     let front_utf8 : IsUtf8 front = subst IsUtf8 (take-take (at + n) done bytes le) (IsUtf8-take text (at + n) utf8 end) in
     let inside : at ≤ length front = omega (arith, le, within, length-take-le (at + n) bytes (omega (arith, le, within))) in
     let begin : IsCharBoundary front at =
     IsCharBoundary-from_take front at front_utf8 inside (subst IsUtf8 (sym (take-take at (at + n) bytes (omega arith))) before) in
     subst IsUtf8 (drop-take at n bytes ∙ ap (take n) (sym same)) (IsUtf8-drop front at front_utf8 begin)
 
-pub plain_found : (rules : LineRules) (bytes : List ℕ) (place : ℕ) → IsFirstByte (is_byte 0x0A) bytes (Some place) → IsUtf8 (take (place + 1) bytes)
-    → TakesSpaces (cut_of rules whole_line (chars (take (place + 1) bytes))) (chars (take (place + 1) bytes)) → IsPlainLine rules (take (place + 1) bytes)
-plain_found rules bytes place h utf8 takes =
-    let found = found_line bytes place h in
+pub plain_found : (rules : LineRules) (bytes : List ℕ) (slot : ℕ) → IsFirstByte (is_byte 0x0A) bytes (Some slot) → IsUtf8 (take (slot + 1) bytes)
+    → TakesSpaces (cut_of rules whole_line (chars (take (slot + 1) bytes))) (chars (take (slot + 1) bytes)) → IsPlainLine rules (take (slot + 1) bytes)
+plain_found rules bytes slot h utf8 takes =
+    let found = found_line bytes slot h in
     record {
-      front = take place bytes;
+      front = take slot bytes;
       no_feed = found.1;
       ends = found.0;
       utf8 = utf8;

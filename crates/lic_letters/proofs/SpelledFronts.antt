@@ -14,7 +14,7 @@ use borrow.Rule.Slice.PartMut.{mid_of, post_of, put_mid}
 use Rattle.std.proofs.Math.Utf8.{scalar, scalars, low_scalar}
 use Rattle.lic_kind.specs.declared.Kind.TheVariants as kind
 use Rattle.lic_kind.specs.Kinds.{kind_of}
-use Rattle.lic_letters.proofs.InPlace.{places_size}
+use Rattle.lic_letters.proofs.InPlace.{offsets_size}
 use Rattle.lic_letters.specs.Simple.{IsSimple, IsAlone, IsNoFront, AreDone, AreOwn, AreSimple, ArePut, IsSpelled, in_place, all_in_place}
 
 -- ---- a character beyond ASCII
@@ -194,7 +194,7 @@ front_spelled text spelled n is within utf8 =
     let all : chars text ≡ xs ++ ys = ap chars (sym (take-append-drop n text)) ∙ chars-append front (drop n text) utf8 in
     let are : AreSimple xs = simple_front xs ys (subst AreSimple all is.simple) in
     let both : spelled ≡ all_in_place xs ++ all_in_place ys = is.is ∙ ap all_in_place all ∙ placed_both xs ys in
-    let long : length (all_in_place xs) ≡ n = sym (places_size xs are) ∙ ap length (encodes-chars front utf8) ∙ length-take-le n text within in
+    let long : length (all_in_place xs) ≡ n = sym (offsets_size xs are) ∙ ap length (encodes-chars front utf8) ∙ length-take-le n text within in
     record {
       utf8 = utf8;
       simple = are;
@@ -252,7 +252,7 @@ done_own bytes n k rest copy done here own within =
       copied = sym (drop-drop k n bytes) ∙ ap (drop k) done.copied ∙ drop-append-le k (drop n copy) done.after fits ∙ ap (λ l. l ++ done.after) (drop-drop k n copy);
     }
 
--- some more that are put in the place of bytes that were copied
+-- some more that are put in place of bytes that were copied
 pub done_put : (bytes : List ℕ) (n k : ℕ) (rest copy new : List ℕ) → AreDone bytes n copy → rest ≡ drop n bytes → k ≤ length copy - n
     → length new ≡ length copy - n → ArePut rest k [] (take k new) → drop k new ≡ drop k (drop n copy) → AreDone bytes (n + k) (take n copy ++ new)
 done_put bytes n k rest copy new done here within long put same =

@@ -37,7 +37,7 @@ three_is a b d c a_low a_high b_low b_high d_low d_high is big =
     let third : 128 + c % 64 ≡ d = omega (arith, is) in
     encoded_three c big (omega (arith, is)) ∙ ap₂ (λ m l. m ∷ l) first (ap₂ (λ m n. m ∷ n ∷ []) second third)
 
--- ---- what is added in the place of a character
+-- ---- what is added in place of a character
 
 pub blank_added : (c w : ℕ) (old new : List ℕ) → 128 ≤ c → w ≡ len_utf8 c → kind_of c ≡ kind.Blank → new ≡ old ++ replicate w 0x20 → new ≡ old ++ in_place c
 blank_added c w old new big width is added =
@@ -79,7 +79,7 @@ three_of (a ∷ []) h = absurd (omega arith)
 three_of (a ∷ b ∷ []) h = absurd (omega arith)
 three_of (a ∷ b ∷ c ∷ bytes) h = refl
 
--- ---- a letter in the place of a word character
+-- ---- a letter in place of a word character
 
 width_four : (c : ℕ) → 65536 ≤ c → len_utf8 c ≡ 4
 width_four c far =
@@ -121,7 +121,7 @@ pub letter_added : (c letter : ℕ) (text old new : List ℕ) → 128 ≤ c → 
 letter_added c letter text old new big word spelled is added =
     added ∙ ap (λ l. old ++ l) (is ∙ sym (one_encoded c letter spelled) ∙ sym (letter_in_place c big word))
 
--- ---- two letters of ASCII in the place of a word character
+-- ---- two letters of ASCII in place of a word character
 
 small_own : (d : ℕ) → d < 128 → to_ascii_lowercase d ≡ d → kind_of d ≡ kind.Word → IsOwnLetter d
 small_own d small own word = (

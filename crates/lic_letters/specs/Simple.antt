@@ -43,7 +43,7 @@ abbrev pub AreSimple : List ℕ → Type 0
 AreSimple [] = Unit {0}
 AreSimple (c ∷ cs) = IsSimple c × IsAlone c cs × AreSimple cs
 
--- what is put in the place of the bytes of a character of this kind: its letters, or as many blanks or letters of the mark
+-- what is put in place of the bytes of a character of this kind: its letters, or as many blanks or letters of the mark
 abbrev pub in_place_of : Kind → ℕ → List ℕ
 in_place_of Blank c = replicate (len_utf8 c) 0x20
 in_place_of Dropped c = []
@@ -81,7 +81,7 @@ pub record AreOwn (bytes : List ℕ) (n : ℕ) : Type 0 where
   pub within : n ≤ length bytes
   pub put : (old : List ℕ) → ArePut bytes n old (old ++ take n bytes)
 
--- in this copy of the start of bytes, simple characters at their start, which take n of them, are put in the place of their bytes
+-- in this copy of the start of bytes, simple characters at their start, which take n of them, are put in place of their bytes
 pub record AreDone (bytes : List ℕ) (n : ℕ) (copy : List ℕ) : Type 0 where
   pub within : n ≤ length copy
   pub put : ArePut bytes n [] (take n copy)

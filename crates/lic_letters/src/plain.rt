@@ -53,8 +53,8 @@ fn plain_line(rules: &Rules, bytes: &[u8]) -> Option<usize>
     ensures feed { IfSome result (λ n. slice_index bytes.now (n - 1) ≡ 0x0A) }
     ensures plain { IfSome result (λ n. IsUtf8 (take n bytes.now) → IsPlainLine (rules_of rules.now) (take n bytes.now)) }
 {
-    let place = memchr(b'\n', bytes)?;
-    let end = place + 1;
+    let slot = memchr(b'\n', bytes)?;
+    let end = slot + 1;
     if is_plain(rules, &bytes[..end]) {
         Some(end)
     } else {
@@ -79,7 +79,7 @@ fn copy_on(bytes: &[u8], copy: &mut Vec<u8>, end: usize) -> Result<(), AllocErro
     Ok(())
 }
 
-/// Puts what simple characters are spelled by in the place of a copy of their bytes, of which the first `done` are so already, up to
+/// Puts what simple characters are spelled by in place of a copy of their bytes, of which the first `done` are so already, up to
 /// `end`. The answer is how many are then done.
 #[inline(always)]
 fn spell_to(
@@ -101,7 +101,7 @@ fn spell_to(
     spell_on(alloc, bytes, spelled, done, end)
 }
 
-/// Puts what such lines at the start of these bytes are spelled by in the place of what is there, as far as they are of simple
+/// Puts what such lines at the start of these bytes are spelled by in place of what is there, as far as they are of simple
 /// characters. The answer is how many bytes these lines have.
 ///
 /// # Errors

@@ -80,65 +80,65 @@ fn is_small(letter: char) -> bool
 
 /// Puts the letters of a word character beyond ASCII in its place, if it has two bytes, and two letters of ASCII.
 #[tactic(auto, using(crate::proofs::WideBytes::pair_added, crate::proofs::WideBytes::pair_simple))]
-fn put_pair(alloc: Global, c: char, place: &mut [u8]) -> Result<bool, AllocError>
+fn put_pair(alloc: Global, c: char, slot: &mut [u8]) -> Result<bool, AllocError>
     requires beyond { 128 ≤ c }
     requires word { kind_of c ≡ Kind.Word }
-    requires width { length place.old ≡ len_utf8 c }
+    requires width { length slot.old ≡ len_utf8 c }
     ensures simple { IfOk result (λ known. IsTrue known → IsSimple c) }
-    ensures put { IfOk result (λ known. IsTrue known → place.new ≡ in_place c) }
-    ensures same { IfOk result (λ known. known ≡ false → place.new ≡ place.old) }
+    ensures put { IfOk result (λ known. IsTrue known → slot.new ≡ in_place c) }
+    ensures same { IfOk result (λ known. known ≡ false → slot.new ≡ slot.old) }
 {
     let letters = spell(alloc, c)?;
     let [one, two] = letters.as_slice() else {
         return Ok(false);
     };
-    if place.len() != 2 || !is_small(*one) || !is_small(*two) {
+    if slot.len() != 2 || !is_small(*one) || !is_small(*two) {
         return Ok(false);
     }
-    place.copy_from_slice(&[*one as u8, *two as u8]);
+    slot.copy_from_slice(&[*one as u8, *two as u8]);
     Ok(true)
 }
 
 /// Puts the letters of a word character beyond ASCII in its place, if it has one of as many bytes, or two of one byte.
 #[inline(always)]
 #[tactic(auto, using(crate::proofs::WideBytes::letter_added, crate::proofs::WideBytes::letter_simple))]
-fn put_letter(alloc: Global, c: char, place: &mut [u8]) -> Result<bool, AllocError>
+fn put_letter(alloc: Global, c: char, slot: &mut [u8]) -> Result<bool, AllocError>
     requires beyond { 128 ≤ c }
     requires word { kind_of c ≡ Kind.Word }
-    requires width { length place.old ≡ len_utf8 c }
+    requires width { length slot.old ≡ len_utf8 c }
     ensures simple { IfOk result (λ known. IsTrue known → IsSimple c) }
-    ensures put { IfOk result (λ known. IsTrue known → place.new ≡ in_place c) }
-    ensures same { IfOk result (λ known. known ≡ false → place.new ≡ place.old) }
+    ensures put { IfOk result (λ known. IsTrue known → slot.new ≡ in_place c) }
+    ensures same { IfOk result (λ known. known ≡ false → slot.new ≡ slot.old) }
 {
     let Some(letter) = one_letter(alloc, c)? else {
-        return put_pair(alloc, c, place);
+        return put_pair(alloc, c, slot);
     };
-    if letter.len_utf8() != place.len() {
+    if letter.len_utf8() != slot.len() {
         return Ok(false);
     }
     let mut buffer = [0; 4];
-    place.copy_from_slice(letter.encode_utf8(&mut buffer).as_bytes());
+    slot.copy_from_slice(letter.encode_utf8(&mut buffer).as_bytes());
     Ok(true)
 }
 
 /// Puts what a character beyond ASCII is spelled by in its place, if it is simple. These bytes come after it; a quote or a dash that
 /// they begin with again is not.
 #[tactic(auto, using(crate::proofs::WideBytes::blank_added, crate::proofs::WideBytes::quote_added, crate::proofs::WideBytes::dash_added, crate::proofs::WideBytes::blank_simple, crate::proofs::WideBytes::quote_simple, crate::proofs::WideBytes::dash_simple))]
-fn put_simple(alloc: Global, c: char, place: &mut [u8], after: &[u8]) -> Result<bool, AllocError>
+fn put_simple(alloc: Global, c: char, slot: &mut [u8], after: &[u8]) -> Result<bool, AllocError>
     requires beyond { 128 ≤ c }
-    requires width { length place.old ≡ len_utf8 c }
+    requires width { length slot.old ≡ len_utf8 c }
     requires few { len_utf8 c ≤ 3 }
     ensures simple { IfOk result (λ known. IsTrue known → IsSimple c) }
     ensures alone { IfOk result (λ known. IsTrue known → kind_of c ≡ Kind.Mark → IsNoFront (encode_utf8 c) after.now) }
-    ensures put { IfOk result (λ known. IsTrue known → place.new ≡ in_place c) }
-    ensures same { IfOk result (λ known. known ≡ false → place.new ≡ place.old) }
+    ensures put { IfOk result (λ known. IsTrue known → slot.new ≡ in_place c) }
+    ensures same { IfOk result (λ known. known ≡ false → slot.new ≡ slot.old) }
 {
     match kind_of(c) {
-        Kind::Word => return put_letter(alloc, c, place),
-        Kind::Blank => place.fill(b' '),
+        Kind::Word => return put_letter(alloc, c, slot),
+        Kind::Blank => slot.fill(b' '),
         Kind::Mark if is_front(c, after) => return Ok(false),
-        Kind::Mark if is_quote(c) => place.fill(b'\''),
-        Kind::Mark if is_dash(c) => place.fill(b'-'),
+        Kind::Mark if is_quote(c) => slot.fill(b'\''),
+        Kind::Mark if is_dash(c) => slot.fill(b'-'),
         _ => return Ok(false),
     }
     Ok(true)
@@ -167,7 +167,7 @@ fn put_first(alloc: Global, bytes: &[u8], spelled: &mut [u8]) -> Result<usize, A
     }
 }
 
-/// Puts what simple characters are spelled by, byte for byte, in the place of a copy of their bytes, of which the first `from` are done,
+/// Puts what simple characters are spelled by, byte for byte, in place of a copy of their bytes, of which the first `from` are done,
 /// up to `end`: mostly a few more, since 16 bytes are looked at together. The answer is how many are then done.
 ///
 /// # Errors

@@ -131,12 +131,12 @@ module _ {A : Type 0} (t : A → A → Bool) where
   group_at xs from end d some within each stop =
       let n = end - from - 1 in
       let size : suc n ≡ end - from = omega arith in
-      let place : from + suc n ≡ end = omega arith in
+      let offset : from + suc n ≡ end = omega arith in
       let last : from + n ≡ end - 1 = omega arith in
       let long = length-drop from xs in
       let at = λ (i : ℕ). get_or-drop from xs i d in
       first_group (drop from xs) n d (omega arith)
       (λ i lt. let next : from + suc i ≡ from + i + 1 = omega arith in
       ap₂ t (at i) (at (suc i) ∙ ap (λ k. get_or xs k d) next) ∙ each (from + i) (omega arith) (omega arith))
-      (λ lt. ap₂ t (at n ∙ ap (λ k. get_or xs k d) last) (at (suc n) ∙ ap (λ k. get_or xs k d) place) ∙ stop (omega arith))
-      ∙ ap₂ (λ a b. a ∷ groups t b) (ap (λ k. take k (drop from xs)) size) (drop-drop (suc n) from xs ∙ ap (λ k. drop k xs) place)
+      (λ lt. ap₂ t (at n ∙ ap (λ k. get_or xs k d) last) (at (suc n) ∙ ap (λ k. get_or xs k d) offset) ∙ stop (omega arith))
+      ∙ ap₂ (λ a b. a ∷ groups t b) (ap (λ k. take k (drop from xs)) size) (drop-drop (suc n) from xs ∙ ap (λ k. drop k xs) offset)

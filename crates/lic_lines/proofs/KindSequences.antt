@@ -102,7 +102,7 @@ apart s t mark stop = at (kind_of t.char) refl
     at kind.Word is = let other = cell_of-no_mark t (λ e. let both : kind.Word ≡ kind.Mark = sym is ∙ e in cc) in
         (no_mark_before (cell_of t) (cell_of s) other, no_family_before (cell_of t) (cell_of s) other)
 
--- a sequence of marks up to a place where nothing is joined
+-- a sequence of marks up to an offset where nothing is joined
 marks_parted : (rules : LineRules) (text : List SourceChar) (n : ℕ) → 0 < n → n ≤ length text
     → ((i : ℕ) (d : SourceChar) → i < n → kind_of (get_or text i d).char ≡ kind.Mark)
     → ((d : SourceChar) → n < length text → kind_of (get_or text n d).char ≡ kind.Mark

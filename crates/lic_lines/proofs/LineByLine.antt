@@ -123,8 +123,8 @@ tail_some : (rules : LineRules) (text : List ℕ) (c : ℕ) → is_whitespace c 
 tail_some rules text c white =
     let whole = text ++ c ∷ [] in
     let long : length whole ≡ length text + 1 = length-append text (c ∷ []) in
-    let place : length whole - 1 ≡ length text = omega arith in
-    let last : drop (length whole - 1) whole ≡ c ∷ [] = ap (λ n. drop n whole) place ∙ drop_at text (c ∷ []) (length text) refl in
+    let offset : length whole - 1 ≡ length text = omega arith in
+    let last : drop (length whole - 1) whole ≡ c ∷ [] = ap (λ n. drop n whole) offset ∙ drop_at text (c ∷ []) (length text) refl in
     greatest_ge (λ n. is_sequence (is_tail_piece rules) (drop (length whole - n) whole)) (length whole) 1 (omega arith)
     (subst (λ l. is_sequence (is_tail_piece rules) l ≡ true) (sym last) (rw white refl))
 

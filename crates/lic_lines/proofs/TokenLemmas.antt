@@ -1,4 +1,4 @@
--- Letters of cells, tokens of stretches, and single signs, step by step.
+-- Letters of cells, tokens of parts, and single signs, step by step.
 use Rattle.std.proofs.Common.{◌≡◌, ℕ, zero, suc, ◌+◌, ◌-◌, ◌<◌, ◌≤◌, Bool, true, false, List, [], ◌∷◌, ◌++◌, length, take, drop, map, get_or, set, refl, sym, ap, ap₂, ◌∙◌, ⊎_elim, append_assoc, arith}
 use Rattle.std.specs.Prelude.{encode_utf8_all}
 use Rattle.std.specs.Char.{encode_utf8}
@@ -13,7 +13,7 @@ use Rattle.lic_trim.specs.Texts.{groups}
 use Rattle.lic_trim.specs.declared.cut.LineCut.{LineCut}
 use Rattle.lic_lines.specs.Cells.{Cell, Blank, Word, cell_of, blank_for, left_of, cells_of_cut}
 use Rattle.lic_lines.specs.Streaks.{end_after, streaks_joined}
-use Rattle.lic_lines.specs.Tokens.{Token, both_words, tokens_after, tokens_from, cell_letters, letters_of, first_tokens, stretch_tokens, tokens_of_cells, is_sign_in_parentheses, sign_from, as_sign, single_signs, token_in, tokens_in}
+use Rattle.lic_lines.specs.Tokens.{Token, both_words, tokens_after, tokens_from, cell_letters, letters_of, first_tokens, part_tokens, tokens_of_cells, is_sign_in_parentheses, sign_from, as_sign, single_signs, token_in, tokens_in}
 use Rattle.lic_lines.specs.declared.tokens.FirstToken.{FirstToken}
 use Rattle.lic_lines.proofs.Gaps.{no_streaks, streaks_joined-gap, first_tokens-gap}
 
@@ -45,8 +45,8 @@ pub end_of_word : (at : ℕ) (word : List SourceChar) (d : SourceChar) → 0 < l
 end_of_word at [] d some = absurd (omega arith)
 end_of_word at (s ∷ []) d some = refl
 end_of_word at (s ∷ t ∷ word) d some =
-    let place : length (s ∷ t ∷ word) - 1 ≡ suc (length (t ∷ word) - 1) = omega arith in
-    end_of_word s.end (t ∷ word) d (omega arith) ∙ ap (λ i. (get_or (s ∷ t ∷ word) i d).end) (sym place)
+    let offset : length (s ∷ t ∷ word) - 1 ≡ suc (length (t ∷ word) - 1) = omega arith in
+    end_of_word s.end (t ∷ word) d (omega arith) ∙ ap (λ i. (get_or (s ∷ t ∷ word) i d).end) (sym offset)
 
 -- the token of some word characters
 pub word_is_token : (after_blank : Bool) (word : List SourceChar) (d : SourceChar) (text : List ℕ) → 0 < length word
@@ -64,7 +64,7 @@ word_is_token after_blank (s ∷ word) d text some is =
     record { text = letters; start = s.start; end = end; after_blank = after_blank } in t ∷ []) is
     (sym (end_of_word s.start (s ∷ word) d some))
 
--- ---- stretches
+-- ---- parts
 
 -- blanks for what was taken give no token
 tokens_of_blank : (rules : LineRules) (n : ℕ) (cells : List Cell)
@@ -82,7 +82,7 @@ tokens_before_blank rules (suc n) cells =
     ∙ ap (λ l. first_tokens (streaks_joined rules cells) ++ first_tokens l) (no_streaks rules) ∙ append-nil (first_tokens (streaks_joined rules cells))
 
 pub tokens_of_cut : (rules : LineRules) (cut : LineCut) (line : List SourceChar)
-    → tokens_of_cells rules (cells_of_cut cut line) ≡ single_signs (stretch_tokens rules (left_of cut line))
+    → tokens_of_cells rules (cells_of_cut cut line) ≡ single_signs (part_tokens rules (left_of cut line))
 tokens_of_cut rules cut line =
     let cells = map cell_of (left_of cut line) in
     ap single_signs
@@ -112,7 +112,7 @@ pub drop_old : (old pushed : List FirstToken) (more : List Token) → tokens_in 
 drop_old old pushed more e = sym (drop-map token_in (length old) pushed) ∙ ap (drop (length old)) e
     ∙ drop_at (tokens_in old) more (length old) (length-map old token_in)
 
--- ---- single signs, where the token at one place is moved to another before it
+-- ---- single signs, where the token at one offset is moved to another before it
 
 swap_is : (xs : List FirstToken) (i j : ℕ) (d : FirstToken) → i < length xs → j < length xs → swap xs i j ≡ set (set xs i (get_or xs j d)) j (get_or xs i d)
 swap_is [] i j d first second = absurd (omega arith)

@@ -30,7 +30,7 @@ without_separator (Word s ∷ streak) = Word s ∷ streak
 abbrev pub without_separators : List Cell → List Cell
 without_separators cells = flat_map without_separator (groups same_mark cells)
 
--- where the last of these ends, or this place where there is none
+-- where the last of these ends, or this offset where there is none
 abbrev pub end_after : ℕ → List Cell → ℕ
 end_after at [] = at
 end_after at (Blank ∷ cells) = end_after at cells

@@ -108,8 +108,8 @@ abbrev pub tokens_after : LineRules → Bool → List SourceChar → List Token
 tokens_after rules after_blank text = tokens_from after_blank (groups both_words (streaks_joined rules (map cell_of text)))
 
 -- the first tokens of characters of which nothing is taken
-abbrev pub stretch_tokens : LineRules → List SourceChar → List Token
-stretch_tokens rules text = first_tokens (streaks_joined rules (map cell_of text))
+abbrev pub part_tokens : LineRules → List SourceChar → List Token
+part_tokens rules text = first_tokens (streaks_joined rules (map cell_of text))
 
 -- and with each copyright sign by itself
 abbrev pub text_tokens_after : LineRules → Bool → List SourceChar → List Token

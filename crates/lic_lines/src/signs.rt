@@ -38,8 +38,8 @@ fn make_single_sign(token: &mut FirstToken)
     }
 }
 
-/// Moves the token at one place to another before it, as a sign where it is one or begins one; gives the
-/// place of the next token.
+/// Moves the token at one index to another before it, as a sign where it is one or begins one; gives the
+/// index of the next token.
 fn settle(tokens: &mut [FirstToken], kept: usize, at: usize) -> usize
     requires order { kept ≤ at }
     requires within { at < length tokens.old }
@@ -70,7 +70,7 @@ fn may_begin_sign(token: &FirstToken) -> bool
     has_text(token, "(") | has_text(token, "\u{A9}")
 }
 
-/// The first place from this one on at which a sign may begin, or how many tokens there are.
+/// The first index from this one on at which a sign may begin, or how many tokens there are.
 fn first_sign(tokens: &[FirstToken], from: usize) -> usize
     requires { from ≤ length tokens.now }
     ensures after { from ≤ result }

@@ -67,7 +67,7 @@ pub fn group_end(grouping: Grouping, cells: &[Cell], from: usize) -> usize
     end
 }
 
-/// Where the last of these ends, or this place where there is none.
+/// Where the last of these ends, or this offset where there is none.
 pub fn end_after(at: u32, cells: &[Cell]) -> u32
     ensures { result ≡ end_after at cells.now }
 {
@@ -135,7 +135,7 @@ fn push_with_joined(out: &mut Vec<Cell>, cells: &[Cell]) -> Result<(), AllocErro
     Ok(())
 }
 
-/// Buffers for the cells of a stretch of text, kept from one stretch to the next.
+/// Buffers for the cells of a part of text, kept from one part to the next.
 #[derive(Drop)]
 pub struct Streaks {
     parted: Vec<Cell>,

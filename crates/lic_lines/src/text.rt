@@ -5,7 +5,7 @@ ghost use Rattle.lic_trim.specs.Texts.{groups};
 ghost use Rattle.lic_kind.specs.LineRules.{rules_of};
 ghost use Rattle.lic_lines.specs.Cells.{cell_of};
 ghost use Rattle.lic_lines.specs.Streaks.{streaks_joined};
-ghost use Rattle.lic_lines.specs.Tokens.{both_words, tokens_from, blank_after, single_signs, text_tokens_after, tokens_after, stretch_tokens, tokens_in};
+ghost use Rattle.lic_lines.specs.Tokens.{both_words, tokens_from, blank_after, single_signs, text_tokens_after, tokens_after, part_tokens, tokens_in};
 
 use crate::buffers::Buffers;
 use crate::cell::Cell;
@@ -107,7 +107,7 @@ pub(crate) fn push_text(
     out: &mut Vec<FirstToken>,
 ) -> Result<(), AllocError>
     ensures { OnOk result (tokens_in out.new.items
-        ≡ tokens_in out.old.items ++ stretch_tokens (rules_of rules.now) text.now) }
+        ≡ tokens_in out.old.items ++ part_tokens (rules_of rules.now) text.now) }
 {
     let mut after_blank = true;
     let mut at = 0;
@@ -119,7 +119,7 @@ pub(crate) fn push_text(
     Ok(())
 }
 
-/// Adds the first tokens at the start of a text of which nothing is taken, up to a place that no copyright sign reaches over.
+/// Adds the first tokens at the start of a text of which nothing is taken, up to an offset that no copyright sign reaches over.
 fn push_sequences(
     alloc: Global,
     rules: &Rules,

@@ -30,7 +30,7 @@ fn may_be_sign(letters: &str) -> bool
     ("(" == letters) | ("\u{A9}" == letters)
 }
 
-/// The word at the start of a text, whose letters are put in the place of those that are there.
+/// The word at the start of a text, whose letters are put in place of those that are there.
 #[inline(always)]
 fn front_word(
     alloc: Global,
@@ -59,7 +59,7 @@ fn is_joined(text: &[SourceChar]) -> bool
     text.len() > 1 && continues(text[0].char, text[1].char)
 }
 
-/// The mark at the start of a text, whose letter is put in the place of the letters that are there.
+/// The mark at the start of a text, whose letter is put in place of the letters that are there.
 #[inline(always)]
 fn front_mark(text: &[SourceChar], letters: &mut String) -> Result<TextStart, AllocError>
     requires some { 0 < length text.now }

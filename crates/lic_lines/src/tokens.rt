@@ -65,7 +65,7 @@ fn push_letters(alloc: Global, text: &mut String, cell: &Cell) -> Result<(), All
     }
 }
 
-/// Puts the letters of these cells, in a row, in the place of those that are there.
+/// Puts the letters of these cells, in a row, in place of those that are there.
 fn spell_cells(alloc: Global, cells: &[Cell], text: &mut String) -> Result<(), AllocError>
     ensures { OnOk result (string_bytes text.new ≡ encode_utf8_all (letters_of cells.now)) }
 {
@@ -95,7 +95,7 @@ fn token_of(
     })
 }
 
-/// Puts the letters of the word characters at the start of a text in the place of those that are there, and says
+/// Puts the letters of the word characters at the start of a text in place of those that are there, and says
 /// how many characters these are.
 pub(crate) fn spell_word(
     alloc: Global,

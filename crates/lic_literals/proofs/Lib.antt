@@ -3,7 +3,7 @@ pub mod Rising
 pub mod Lists
 pub mod GroupLemmas
 pub mod EndsLemmas
-pub mod MarkLemmas
+pub mod FlagLemmas
 pub mod HitsLemmas
 pub mod GramLemmas
 pub mod TableLemmas

@@ -10,29 +10,29 @@ use Rattle.std.proofs.Math.Logic.{⊎_elim}
 use Rattle.memchr.specs.Find.{OccursAt}
 use Rattle.lic_literals.specs.Hits.{IsNoted}
 use Rattle.lic_literals.specs.Sizes.{AreSizes, gram_at}
-use Rattle.lic_literals.specs.Tables.{AddsWindow, HasWindow, IsMarked, MarksWindow, NotesWhere, number_of}
+use Rattle.lic_literals.specs.Tables.{AddsWindow, HasWindow, IsFlagged, FlagsWindow, NotesWhere, number_of}
 use Rattle.lic_literals.specs.declared.hits.Hits.{Hits}
 use Rattle.lic_literals.specs.declared.tables.table.Table.{Table}
 use Rattle.lic_literals.proofs.GramLemmas.{part_of_occurrence}
 
 module _ {LENGTH GRAM STEP : ℕ} (window : List ℕ) (given : ℕ) (old new : Table LENGTH GRAM STEP) where
   -- the window has a number already
-  pub adds_known : (answer : ℕ) → MarksWindow window old new → length window ≡ LENGTH → number_of new window ≡ Some answer →
+  pub adds_known : (answer : ℕ) → FlagsWindow window old new → length window ≡ LENGTH → number_of new window ≡ Some answer →
       AddsWindow window given answer old new
-  adds_known answer marks size known = record {
-    added = record { size = size; numbered = known; marked = marks.marked };
+  adds_known answer flags size known = record {
+    added = record { size = size; numbered = known; flagged = flags.flagged };
     kept = λ w i h. record {
       size = h.size;
-      numbered = marks.numbers w ∙ h.numbered;
-      marked = λ start within. marks.kept (gram_at GRAM w start) start (h.marked start within);
+      numbered = flags.numbers w ∙ h.numbered;
+      flagged = λ start within. flags.kept (gram_at GRAM w start) start (h.flagged start within);
     };
-    below = λ all w i is. let less : i < given = all w i (sym (marks.numbers w) ∙ is) in omega arith;
+    below = λ all w i is. let less : i < given = all w i (sym (flags.numbers w) ∙ is) in omega arith;
   }
 
 -- the window gets a number
 module _ {LENGTH GRAM STEP : ℕ} (window : List ℕ) (given : ℕ) (old new : Table LENGTH GRAM STEP) (before : List ℕ → Option ℕ)
-    (marks : (start : ℕ) → start < STEP → IsMarked new (gram_at GRAM window start) start)
-    (stay : (gram : List ℕ) (start : ℕ) → IsMarked old gram start → IsMarked new gram start)
+    (flags : (start : ℕ) → start < STEP → IsFlagged new (gram_at GRAM window start) start)
+    (stay : (gram : List ℕ) (start : ℕ) → IsFlagged old gram start → IsFlagged new gram start)
     (was : (w : List ℕ) → number_of old w ≡ before w) (size : length window ≡ LENGTH) (absent : before window ≡ None)
     (updates : (w : List ℕ) → number_of new w ≡ cond (bytes_eq window w) (Some given) (before w)) where
   same_number : (w : List ℕ) → bytes_eq window w ≡ false → number_of new w ≡ before w
@@ -43,7 +43,7 @@ module _ {LENGTH GRAM STEP : ℕ} (window : List ℕ) (given : ℕ) (old new : T
 
   pub adds_new : AddsWindow window given given old new
   adds_new = record {
-    added = record { size = size; numbered = new_number window ((bytes_eq-Decides window window).1 refl); marked = marks };
+    added = record { size = size; numbered = new_number window ((bytes_eq-Decides window window).1 refl); flagged = flags };
     kept = λ w i h. record {
       size = h.size;
       numbered =
@@ -53,7 +53,7 @@ module _ {LENGTH GRAM STEP : ℕ} (window : List ℕ) (given : ℕ) (old new : T
           absurd (none-some i (sym absent ∙ known)))
           (λ (other : bytes_eq window w ≡ false). same_number w other ∙ sym (was w) ∙ h.numbered)
           (cases_Bool (bytes_eq window w));
-      marked = λ start within. stay (gram_at GRAM w start) start (h.marked start within);
+      flagged = λ start within. stay (gram_at GRAM w start) start (h.flagged start within);
     };
     below = λ all w i is.
         ⊎_elim
@@ -63,15 +63,15 @@ module _ {LENGTH GRAM STEP : ℕ} (window : List ℕ) (given : ℕ) (old new : T
   }
 
 module _ {LENGTH GRAM STEP : ℕ} (table : Table LENGTH GRAM STEP) (bytes : List ℕ) (sizes : AreSizes LENGTH GRAM STEP) where
-  -- of the first grams of a window that is in the bytes, the one at this offset is marked
-  pub gram_marked : (w : List ℕ) (i p offset : ℕ) → HasWindow table w i → OccursAt bytes w p → p ≤ offset → offset < p + STEP →
-      IsMarked table (gram_at GRAM bytes offset) (offset - p)
-  gram_marked w i p offset has occurs begins late =
+  -- of the first grams of a window that is in the bytes, the one at this offset is flagged
+  pub gram_flagged : (w : List ℕ) (i p offset : ℕ) → HasWindow table w i → OccursAt bytes w p → p ≤ offset → offset < p + STEP →
+      IsFlagged table (gram_at GRAM bytes offset) (offset - p)
+  gram_flagged w i p offset has occurs begins late =
       let d : ℕ = offset - p in
       let here : p + d ≡ offset = omega arith in
       let gram : gram_at GRAM w d ≡ gram_at GRAM bytes offset =
       part_of_occurrence bytes w p d GRAM occurs (omega (arith, sizes.fits, has.size)) ∙ ap (gram_at GRAM bytes) here in
-      subst (λ gr. IsMarked table gr d) gram (has.marked d (omega arith))
+      subst (λ gr. IsFlagged table gr d) gram (has.flagged d (omega arith))
 
   -- those that begin late enough before an offset
   abbrev pub IsLate : ℕ → ℕ → ℕ → Type 0

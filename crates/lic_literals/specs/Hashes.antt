@@ -1,4 +1,4 @@
--- Hashes of grams, and the marks that they give.
+-- Hashes of grams, and the flags that they give.
 use Rattle.std.specs.Prelude.{ℕ, ◌+◌, ◌*◌, ◌/◌, ◌%◌, ◌^◌, List, take, length, nat_lt, if◌then◌else◌}
 use Rattle.std.specs.Int.{w32, w64, from_le_bytes}
 
@@ -10,10 +10,10 @@ word_of gram = if nat_lt (length gram) 8 then from_le_bytes w32 (take 4 gram) el
 unfoldable pub hash_of : List ℕ → ℕ
 hash_of gram = word_of gram * 0x9E3779B97F4A7C15 % 2 ^ 64
 
--- the mark of a gram with this hash
-abbrev pub gram_mark : ℕ → ℕ
-gram_mark hash = hash / 2 ^ 46 % 262144
+-- the flag of a gram with this hash
+abbrev pub gram_flag : ℕ → ℕ
+gram_flag hash = hash / 2 ^ 46 % 262144
 
--- the mark of a gram with this hash that begins at this byte of a window
-abbrev pub start_mark : ℕ → ℕ → ℕ
-start_mark hash start = hash / 2 ^ 31 % 32768 * 8 + start
+-- the flag of a gram with this hash that begins at this byte of a window
+abbrev pub start_flag : ℕ → ℕ → ℕ
+start_flag hash start = hash / 2 ^ 31 % 32768 * 8 + start

@@ -4,7 +4,7 @@ pub mod Hashes
 pub mod Hits
 pub mod Kept
 pub mod Keys
-pub mod Marks
+pub mod Flags
 pub mod Sizes
 pub mod Tables
 pub mod Windows

@@ -3,9 +3,9 @@ use Rattle.std.specs.Prelude.{◌≡◌, ℕ, ◌+◌, ◌<◌, List, Option, So
 use Rattle.std.specs.HashMap.{get}
 use Rattle.std.specs.Str.{bytes_eq}
 use Rattle.memchr.specs.Find.{OccursAt}
-use Rattle.lic_literals.specs.Hashes.{hash_of, gram_mark, start_mark}
+use Rattle.lic_literals.specs.Hashes.{hash_of, gram_flag, start_flag}
 use Rattle.lic_literals.specs.Hits.{IsNoted}
-use Rattle.lic_literals.specs.Marks.{Has}
+use Rattle.lic_literals.specs.Flags.{Has}
 use Rattle.lic_literals.specs.Sizes.{gram_at}
 use Rattle.lic_literals.specs.declared.hits.Hits.{Hits}
 use Rattle.lic_literals.specs.declared.tables.table.Table.{Table}
@@ -23,21 +23,21 @@ module _ {LENGTH GRAM STEP : ℕ} where
   abbrev pub AllBelow : Table LENGTH GRAM STEP → ℕ → Type 0
   AllBelow table n = (w : List ℕ) (i : ℕ) → number_of table w ≡ Some i → i < n
 
-  -- the gram is marked, also together with where it begins in a window
-  pub record IsMarked (table : Table LENGTH GRAM STEP) (gram : List ℕ) (start : ℕ) : Type 0 where
-    pub anywhere : Has table.grams (gram_mark (hash_of gram))
-    pub there : Has table.starts (start_mark (hash_of gram) start)
+  -- the gram is flagged, also together with where it begins in a window
+  pub record IsFlagged (table : Table LENGTH GRAM STEP) (gram : List ℕ) (start : ℕ) : Type 0 where
+    pub anywhere : Has table.grams (gram_flag (hash_of gram))
+    pub there : Has table.starts (start_flag (hash_of gram) start)
 
-  -- the window has this number, and its first grams are marked
+  -- the window has this number, and its first grams are flagged
   pub record HasWindow (table : Table LENGTH GRAM STEP) (window : List ℕ) (number : ℕ) : Type 0 where
     pub size : length window ≡ LENGTH
     pub numbered : number_of table window ≡ Some number
-    pub marked : (start : ℕ) → start < STEP → IsMarked table (gram_at GRAM window start) start
+    pub flagged : (start : ℕ) → start < STEP → IsFlagged table (gram_at GRAM window start) start
 
-  -- the grams of a window are marked, and what was there before still is
-  pub record MarksWindow (window : List ℕ) (old new : Table LENGTH GRAM STEP) : Type 0 where
-    pub marked : (start : ℕ) → start < STEP → IsMarked new (gram_at GRAM window start) start
-    pub kept : (gram : List ℕ) (start : ℕ) → IsMarked old gram start → IsMarked new gram start
+  -- the grams of a window are flagged, and what was there before still is
+  pub record FlagsWindow (window : List ℕ) (old new : Table LENGTH GRAM STEP) : Type 0 where
+    pub flagged : (start : ℕ) → start < STEP → IsFlagged new (gram_at GRAM window start) start
+    pub kept : (gram : List ℕ) (start : ℕ) → IsFlagged old gram start → IsFlagged new gram start
     pub numbers : (w : List ℕ) → number_of new w ≡ number_of old w
 
   -- the window has the number that is answered, which is not above the one that was given

@@ -2,9 +2,9 @@
 
 ghost use Rattle.std.specs.Prelude.{◌≡◌, ◌<◌, ◌≤◌, length, take};
 ghost use Rattle.std.specs.Int.{w32, w64, from_le_bytes};
-ghost use Rattle.lic_literals.specs.Hashes.{hash_of, gram_mark, start_mark};
+ghost use Rattle.lic_literals.specs.Hashes.{hash_of, gram_flag, start_flag};
 
-use crate::marks::MARKS;
+use crate::flags::FLAGS;
 
 // An odd number, the bits of which follow no pattern: a word times it spreads over the high bits of a hash.
 const SPREAD: u64 = 0x9E37_79B9_7F4A_7C15;
@@ -15,13 +15,13 @@ pub const LONG_GRAM: usize = 8;
 /// How many bytes of a shorter gram are hashed.
 pub const SHORT_GRAM: usize = 4;
 
-// How far up in a hash the bits are that number a mark: the highest 18.
-const MARK_BITS: u32 = 46;
+// How far up in a hash the bits are that number a flag: the highest 18.
+const FLAG_BITS: u32 = 46;
 
-// How far up in a hash the bits are that number a mark together with an offset: the next 15.
+// How far up in a hash the bits are that number a flag together with an offset: the next 15.
 const NEXT_BITS: u32 = 31;
 
-// How many offsets in a window a mark has bits for.
+// How many offsets in a window a flag has bits for.
 const STARTS: usize = 8;
 
 /// The hash of a gram: its first eight bytes, or its first four where it has fewer, as a word, times a number.
@@ -56,21 +56,21 @@ fn short_word(gram: &[u8]) -> u32
     u32::from_le_bytes([gram[0], gram[1], gram[2], gram[3]])
 }
 
-/// The mark of a gram with this hash.
+/// The flag of a gram with this hash.
 #[inline(always)]
-pub fn mark_of(hash: u64) -> usize
-    ensures value { result ≡ gram_mark hash }
+pub fn flag_of(hash: u64) -> usize
+    ensures value { result ≡ gram_flag hash }
     ensures below { result < 262144 }
 {
-    (hash >> MARK_BITS) as usize % MARKS
+    (hash >> FLAG_BITS) as usize % FLAGS
 }
 
-/// The mark of a gram with this hash that begins at this byte of a window.
+/// The flag of a gram with this hash that begins at this byte of a window.
 #[inline(always)]
-pub fn start_mark_of(hash: u64, start: usize) -> usize
+pub fn start_flag_of(hash: u64, start: usize) -> usize
     requires { start < 8 }
-    ensures value { result ≡ start_mark hash start }
+    ensures value { result ≡ start_flag hash start }
     ensures below { result < 262144 }
 {
-    (hash >> NEXT_BITS) as usize % (MARKS / STARTS) * STARTS + start
+    (hash >> NEXT_BITS) as usize % (FLAGS / STARTS) * STARTS + start
 }

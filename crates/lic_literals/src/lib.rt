@@ -3,12 +3,12 @@
 
 mod counts;
 mod ends;
+mod flags;
 mod grams;
 mod groups;
 mod hits;
 mod kept;
 pub mod laws;
-mod marks;
 mod prefilter;
 mod tables;
 

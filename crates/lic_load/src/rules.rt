@@ -37,7 +37,7 @@ fn read_rules(alloc: Global, bytes: &[u8]) -> Result<Rules, FileFault<RulesFault
 
 /// The rules in the file of this name.
 ///
-/// It is a function of its own on the stack, as the profile needs a part of its places alone.
+/// It is a function of its own on the stack, as the profile needs a part of its memory alone.
 #[inline(never)]
 fn rules_of_file<Rt: Files>(rt: &Rt, alloc: Global, path: &str) -> Result<Rules, LoadFault>
     ensures rules { IfOk result (λ rules. AreRulesOfFile (rules_of rules)) }

@@ -18,9 +18,9 @@ module _ (a : Core) where
   weight-copies zero = sym (zero-mul (weight a))
   weight-copies (suc n) = omega (arith, weight-copies n, suc-mul n (weight a))
 
-  -- the place after that many copies
-  pub place_past : (n at w : ℕ) → w ≡ weight a → at + n * w ≡ at + weight (copies n a)
-  place_past n at w e = ap (λ k. at + n * k) e ∙ ap (λ k. at + k) (sym (weight-copies n))
+  -- the position after that many copies
+  pub position_past : (n at w : ℕ) → w ≡ weight a → at + n * w ≡ at + weight (copies n a)
+  position_past n at w e = ap (λ k. at + n * k) e ∙ ap (λ k. at + k) (sym (weight-copies n))
 
   pub weight-up_to : (n : ℕ) → weight (up_to n a) ≡ n * weight a
   weight-up_to zero = sym (zero-mul (weight a))

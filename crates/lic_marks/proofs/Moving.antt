@@ -1,4 +1,4 @@
--- Marks that move on by one place.
+-- Marks that move on by one position.
 use Rattle.std.proofs.Common.{◌≡◌, ◌≢◌, ℕ, zero, suc, ◌+◌, ◌-◌, ◌≤◌, ◌<◌, ◌==◌, ◌&&◌, Bool, true, false, List, [], ◌∷◌, length, drop, set, get_or, replicate, refl, sym, ap, ◌∙◌, ⊎_elim, arith}
 use Rattle.std.proofs.lemmas.Bool.{cases_lt, cases_eq}
 use Rattle.std.proofs.lemmas.List.{get_or-set_same, get_or-set_other, get_or-drop}
@@ -20,7 +20,7 @@ and_all : (b : Bool) → (b && true) ≡ b
 and_all true = refl
 and_all false = refl
 
--- the flag before a place of the range but the first
+-- the flag before a position of the range but the first
 came : (old : List Bool) (at : ℕ) (entry : Bool) (j : ℕ) → flag_before (drop at old) entry (suc j) ≡ get_or old (at + j) false
 came old at entry j = get_or-drop at old j false
 
@@ -57,31 +57,31 @@ module _ (entry : Bool) (old : List Bool) (at n : ℕ) (new : List Bool) (kept :
 
 -- ---- mark by mark, from the last to the first
 
--- The walk has come down to `place`: after it marks have moved, and before it they have not.
-pub record Falls (takes : ℕ → Bool) (old : List Bool) (at n : ℕ) (row : List Bool) (place : ℕ) : Type 0 where
-  pub below : (k : ℕ) → k < place → get_or row k false ≡ get_or old k false
-  pub here : place < at + n → get_or row place false ≡ false
-  pub above : (j : ℕ) → j < n → place < at + j → get_or row (at + j) false ≡ (get_or old (at + j - 1) false && takes j)
+-- The walk has come down to `position`: after it marks have moved, and before it they have not.
+pub record Falls (takes : ℕ → Bool) (old : List Bool) (at n : ℕ) (row : List Bool) (position : ℕ) : Type 0 where
+  pub below : (k : ℕ) → k < position → get_or row k false ≡ get_or old k false
+  pub here : position < at + n → get_or row position false ≡ false
+  pub above : (j : ℕ) → j < n → position < at + j → get_or row (at + j) false ≡ (get_or old (at + j - 1) false && takes j)
   pub past : (k : ℕ) → at + n ≤ k → get_or row k false ≡ get_or old k false
 
 module _ (takes : ℕ → Bool) (old : List Bool) (at n : ℕ) where
-  pub Falls-start : (place : ℕ) → place ≡ at + n → Falls takes old at n old place
-  Falls-start place e = record {
+  pub Falls-start : (position : ℕ) → position ≡ at + n → Falls takes old at n old position
+  Falls-start position e = record {
     below = λ k h. refl;
     here = λ inside. absurd (omega (arith, e));
     above = λ j h high. absurd (omega (arith, e));
     past = λ k h. refl;
   }
 
-  module _ (row : List Bool) (place : ℕ) (f : Falls takes old at n row place) (within : place ≤ at + n) where
-    -- down to a place after which, and before the last one, nothing is marked
-    module _ (new : List Bool) (q : ℕ) (begun : at ≤ q) (less : q < place) (none : (k : ℕ) → q < k → k < place → get_or row k false ≡ false)
+  module _ (row : List Bool) (position : ℕ) (f : Falls takes old at n row position) (within : position ≤ at + n) where
+    -- down to a position after which, and before the last one, nothing is marked
+    module _ (new : List Bool) (q : ℕ) (begun : at ≤ q) (less : q < position) (none : (k : ℕ) → q < k → k < position → get_or row k false ≡ false)
         (here : get_or new q false ≡ false) (next : q + 1 < at + n → get_or new (q + 1) false ≡ (get_or row q false && takes (q + 1 - at)))
         (other : (k : ℕ) → k ≢ q → (k ≡ q + 1 → at + n ≤ k) → get_or new k false ≡ get_or row k false) where
-      gap : (k : ℕ) → q + 2 ≤ k → k ≤ place → k < at + n → get_or new k false ≡ false
+      gap : (k : ℕ) → q + 2 ≤ k → k ≤ position → k < at + n → get_or new k false ≡ false
       gap k low high inside = other k (omega arith) (λ e. absurd (omega arith))
-          ∙ ⊎_elim (λ before. none k (omega arith) before) (λ same. let e : k ≡ place = omega arith in
-          ap (λ i. get_or row i false) e ∙ f.here (omega arith)) (cases_lt k place)
+          ∙ ⊎_elim (λ before. none k (omega arith) before) (λ same. let e : k ≡ position = omega arith in
+          ap (λ i. get_or row i false) e ∙ f.here (omega arith)) (cases_lt k position)
 
       pub Falls-to : Falls takes old at n new q
       Falls-to = record {
@@ -91,7 +91,7 @@ module _ (takes : ℕ → Bool) (old : List Bool) (at n : ℕ) where
             (λ beyond. other (at + j) (omega arith) (λ e. absurd (apart e)) ∙ f.above j h beyond)
             (λ until. gap (at + j) (omega (arith, apart)) until (omega arith)
             ∙ sym (none_and _ (takes j) (sym (f.below (at + j - 1) (omega (arith, apart))) ∙ none (at + j - 1) (omega (arith, apart)) (omega (arith, apart)))))
-            (cases_lt place (at + j))) (cases_eq (at + j) (q + 1));
+            (cases_lt position (at + j))) (cases_eq (at + j) (q + 1));
         past = λ k h. other k (omega arith) (λ e. h) ∙ f.past k h;
       }
         where
@@ -103,19 +103,19 @@ module _ (takes : ℕ → Bool) (old : List Bool) (at n : ℕ) where
               ∙ ap (λ b. b && takes j) (f.below q less ∙ ap (λ k. get_or old k false) prior)
 
     -- where the range has no mark
-    module _ (q : ℕ) (begun : at ≤ q) (less : q < place) (none : (k : ℕ) → q ≤ k → k < place → get_or row k false ≡ false) where
+    module _ (q : ℕ) (begun : at ≤ q) (less : q < position) (none : (k : ℕ) → q ≤ k → k < position → get_or row k false ≡ false) where
       none_next : q + 1 < at + n → get_or row (q + 1) false ≡ (get_or row q false && takes (q + 1 - at))
       none_next inside = ⊎_elim (λ before. none (q + 1) (omega arith) before)
-          (λ last. let e : q + 1 ≡ place = omega arith in ap (λ k. get_or row k false) e ∙ f.here (omega (arith, inside))) (cases_lt (q + 1) place)
+          (λ last. let e : q + 1 ≡ position = omega arith in ap (λ k. get_or row k false) e ∙ f.here (omega (arith, inside))) (cases_lt (q + 1) position)
           ∙ sym (none_and _ (takes (q + 1 - at)) (none q (omega arith) less))
 
       pub Falls-past : Falls takes old at n row q
       Falls-past = Falls-to row q begun less (λ k low high. none k (omega arith) high) (none q (omega arith) less) none_next (λ k a b. refl)
 
-  -- down to the first place
+  -- down to the first position
   module _ (row : List Bool) (f : Falls takes old at n row at) where
-    first_place : at + 0 ≡ at
-    first_place = omega arith
+    first_position : at + 0 ≡ at
+    first_position = omega arith
 
     later : (entry : Bool) (j : ℕ) → suc j < n → get_or row (at + suc j) false ≡ (flag_before (drop at old) entry (suc j) && takes (suc j))
     later entry j h =
@@ -130,7 +130,7 @@ module _ (takes : ℕ → Bool) (old : List Bool) (at n : ℕ) where
         first false out h = f.here (omega arith)
 
         inside : (j : ℕ) → j < n → get_or row (at + j) false ≡ (flag_before (drop at old) entry j && takes j)
-        inside zero h = ap (λ k. get_or row k false) first_place ∙ first entry out h
+        inside zero h = ap (λ k. get_or row k false) first_position ∙ first entry out h
         inside (suc j) h = later entry j h
 
     pub Moves-entered : 0 < n → at + n ≤ length row → (entry : Bool) → entry ≡ true → Moves takes entry old at n (set row at (takes 0))
@@ -142,12 +142,12 @@ module _ (takes : ℕ → Bool) (old : List Bool) (at n : ℕ) where
       where
         inside : (j : ℕ) → j < n → get_or (set row at (takes 0)) (at + j) false ≡ (flag_before (drop at old) entry j && takes j)
         inside zero h =
-            ap (λ k. get_or (set row at (takes 0)) k false) first_place ∙ get_or-set_same row at (takes 0) false (omega arith) ∙ ap (λ b. b && takes 0) (sym is)
+            ap (λ k. get_or (set row at (takes 0)) k false) first_position ∙ get_or-set_same row at (takes 0) false (omega arith) ∙ ap (λ b. b && takes 0) (sym is)
         inside (suc j) h = get_or-set_other row at (at + suc j) (takes 0) false (omega arith) ∙ later entry j h
 
 -- ---- the marks of flags that were moved on
 
--- the flag before a place, where the row's first is left out
+-- the flag before a position, where the row's first is left out
 before_next : (row : List Bool) (j : ℕ) → flag_before (drop 1 row) (first_flag row) j ≡ get_or row j false
 before_next [] zero = refl
 before_next (flag ∷ row) zero = refl

@@ -140,7 +140,7 @@ Shifts-empty after entry c row at = record { walk = Leaves-empty after entry row
 pub Shifts-none : (after entry : Bool) (c : ℕ) (row : List Bool) (at : ℕ) → Shifts none after entry c row at row false
 Shifts-none after entry c row at = record { walk = Leaves-none after entry row at; row = same_row row at (at + 0) (omega arith) }
 
--- what the first walk wrote lies before the second one's place
+-- what the first walk wrote lies before the second one's position
 module _ (a : Core) (after entry : Bool) (c : ℕ) (old : List Bool) (at : ℕ) (mid : List Bool) (x : Bool)
     (width : at + weight a ≤ length old) (p : Shifts a after entry c old at mid x) where
   written : List Bool

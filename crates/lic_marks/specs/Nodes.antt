@@ -29,7 +29,7 @@ abbrev pub times_over : Times → Core → Core
 times_over (Bounded needed more) a = cat (copies needed a) (up_to more a)
 times_over (Unbounded before) a = cat (copies before a) (plus a)
 
--- one node, with the core of each child in its place
+-- one node, with the core of each child in its position
 abbrev pub node_core : Node-F Core → Core
 node_core (Node-F.Letters text) = cat_all (letter_cores text.items)
 node_core (Node-F.One test) = one (passes test)

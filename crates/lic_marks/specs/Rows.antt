@@ -38,11 +38,11 @@ marks_of (alt a b) row = (marks_of a row, marks_of b (drop (weight a) row))
 marks_of (plus a) row = marks_of a row
 marks_of (tidy a) row = marks_of a row
 
--- by the marks in the row from the place `at` on, one can leave
+-- by the marks in the row from the position `at` on, one can leave
 pub record Leaves (r : Core) (after entry : Bool) (row : List Bool) (at : ℕ) (leaves : Bool) : Type 0 where
   pub answer : leaves ≡ can_leave r after entry (marks_of r (drop at row))
 
--- the marks in the row from the place `at` on are taken over the letter c; the answer is whether one could leave before it
+-- the marks in the row from the position `at` on are taken over the letter c; the answer is whether one could leave before it
 pub record Shifts (r : Core) (after entry : Bool) (c : ℕ) (old : List Bool) (at : ℕ) (new : List Bool)
     (leaves : Bool) : Type 0 where
   pub walk : Leaves r after entry old at leaves

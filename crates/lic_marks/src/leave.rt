@@ -124,14 +124,14 @@ fn leaves_repeat(
     match times {
         Times::Bounded { needed, more } => {
             let (past, _) = leaves_copies_of(child, needed, row, at, after, entry);
-            let place = at + needed * child.weight();
-            let (_, out) = leaves_copies_of(child, more, row, place, after, past);
+            let position = at + needed * child.weight();
+            let (_, out) = leaves_copies_of(child, more, row, position, after, past);
             out
         }
         Times::Unbounded { before } => {
             let (past, _) = leaves_copies_of(child, before, row, at, after, entry);
-            let place = at + before * child.weight();
-            leaves(child, row, place, after, past)
+            let position = at + before * child.weight();
+            leaves(child, row, position, after, past)
         }
     }
 }
@@ -155,13 +155,13 @@ fn leaves_copies_of(
     let width = row.len();
     prove!(at <= width);
     let weight = child.weight();
-    let mut place = at;
+    let mut position = at;
     let mut flag = entry;
     let mut found = false;
     for _ in 0..count {
         found = found | flag;
-        flag = leaves(child, row, place, after, flag);
-        place += weight;
+        flag = leaves(child, row, position, after, flag);
+        position += weight;
     }
     (flag, found | flag)
 }
@@ -175,11 +175,11 @@ fn leaves_row(children: &[Node], row: &Bits, at: usize, after: bool, entry: bool
 {
     let width = row.len();
     prove!(at <= width);
-    let mut place = at;
+    let mut position = at;
     let mut flag = entry;
     for child in children {
-        flag = leaves(child, row, place, after, flag);
-        place += child.weight();
+        flag = leaves(child, row, position, after, flag);
+        position += child.weight();
     }
     flag
 }
@@ -192,12 +192,12 @@ fn leaves_any(children: &[Node], row: &Bits, at: usize, after: bool, entry: bool
 {
     let width = row.len();
     prove!(at <= width);
-    let mut place = at;
+    let mut position = at;
     let mut found = false;
     for child in children {
-        let out = leaves(child, row, place, after, entry);
+        let out = leaves(child, row, position, after, entry);
         found = found | out;
-        place += child.weight();
+        position += child.weight();
     }
     found
 }

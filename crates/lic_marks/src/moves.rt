@@ -24,9 +24,9 @@ pub fn move_letters(text: &[char], row: &mut Bits, at: usize, entry: bool, lette
     let mut to = end;
     while at < to {
         to = match row.last_set(at, to) {
-            Some(place) => {
-                advance(text, row, at, place, letter);
-                place
+            Some(position) => {
+                advance(text, row, at, position, letter);
+                position
             }
             None => at,
         };
@@ -37,17 +37,17 @@ pub fn move_letters(text: &[char], row: &mut Bits, at: usize, entry: bool, lette
 }
 
 // Makes this position of the letters, which are in the row from `at` on, inactive, and the next one active if it passes.
-fn advance(text: &[char], row: &mut Bits, at: usize, place: usize, letter: char)
-    requires begun { at ≤ place }
-    requires inside { place < at + length text.now }
+fn advance(text: &[char], row: &mut Bits, at: usize, position: usize, letter: char)
+    requires begun { at ≤ position }
+    requires inside { position < at + length text.now }
     requires within { at + length text.now ≤ length row.old }
-    ensures moves { Advances (λ j. letter == slice_index text.now j) row.old at (length text.now) place row.new }
+    ensures moves { Advances (λ j. letter == slice_index text.now j) row.old at (length text.now) position row.new }
     ensures len { length row.new ≡ length row.old }
 {
     let width = row.len();
-    prove!(place < width);
-    row.put(place, false);
-    let next = place + 1;
+    prove!(position < width);
+    row.put(position, false);
+    let next = position + 1;
     if next < at + text.len() {
         row.put(next, letter == text[next - at]);
     }

@@ -18,7 +18,7 @@ impl Times {
     ghost use Rattle.lic_marks.specs.Rows.{weight};
     ghost use Rattle.lic_marks.specs.Nodes.{times_over};
 
-    /// How many of the words are needed at first, and how many places for one word each there are after them.
+    /// How many of the words are needed at first, and how many positions for one word each there are after them.
     pub fn counts(self) -> (usize, usize)
         ensures { (r : Core) → weight (times_over self r) ≡ result.0 * weight r + result.1 * weight r }
     {

@@ -155,14 +155,14 @@ fn shift_repeat(
     match times {
         Times::Bounded { needed, more } => {
             let (past, _) = shift_copies_of(child, needed, row, at, entry, reading);
-            let place = at + needed * child.weight();
-            let (_, out) = shift_copies_of(child, more, row, place, past, reading);
+            let position = at + needed * child.weight();
+            let (_, out) = shift_copies_of(child, more, row, position, past, reading);
             out
         }
         Times::Unbounded { before } => {
             let (past, _) = shift_copies_of(child, before, row, at, entry, reading);
-            let place = at + before * child.weight();
-            shift_plus(child, row, place, past, reading)
+            let position = at + before * child.weight();
+            shift_plus(child, row, position, past, reading)
         }
     }
 }
@@ -189,13 +189,13 @@ fn shift_copies_of(
     let width = row.len();
     prove!(at <= width);
     let weight = child.weight();
-    let mut place = at;
+    let mut position = at;
     let mut flag = entry;
     let mut found = false;
     for _ in 0..count {
         found = found | flag;
-        flag = shift(child, row, place, flag, reading);
-        place += weight;
+        flag = shift(child, row, position, flag, reading);
+        position += weight;
     }
     (flag, found | flag)
 }
@@ -211,11 +211,11 @@ fn shift_row(children: &[Node], row: &mut Bits, at: usize, entry: bool, reading:
 {
     let width = row.len();
     prove!(at <= width);
-    let mut place = at;
+    let mut position = at;
     let mut flag = entry;
     for child in children {
-        flag = shift(child, row, place, flag, reading);
-        place += child.weight();
+        flag = shift(child, row, position, flag, reading);
+        position += child.weight();
     }
     flag
 }
@@ -230,12 +230,12 @@ fn shift_any(children: &[Node], row: &mut Bits, at: usize, entry: bool, reading:
 {
     let width = row.len();
     prove!(at <= width);
-    let mut place = at;
+    let mut position = at;
     let mut found = false;
     for child in children {
-        let out = shift(child, row, place, entry, reading);
+        let out = shift(child, row, position, entry, reading);
         found = found | out;
-        place += child.weight();
+        position += child.weight();
     }
     found
 }

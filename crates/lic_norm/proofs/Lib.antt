@@ -15,7 +15,7 @@ pub mod ReaderFronts
 pub mod ReadingLemmas
 pub mod AsciiLines
 pub mod TextLemmas
-pub mod StretchPlaces
+pub mod SectionOffsets
 pub use Rattle.lic_tokens.proofs.SpellingPlaces
 pub use Rattle.lic_rewriting.proofs.TokenTexts
 pub use Rattle.lic_tokens.proofs.PartedLemmas

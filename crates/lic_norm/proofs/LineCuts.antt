@@ -19,21 +19,21 @@ HasNoEnd bytes = (k : ℕ) → k < length bytes → get_or bytes k 0 ≢ 0x0A
 
 -- where the first line ends, by a search for its U+000A
 abbrev pub line_end : List ℕ → Option ℕ → ℕ
-line_end bytes (Some place) = place + 1
+line_end bytes (Some offset) = offset + 1
 line_end bytes None = length bytes
 
 -- the first U+000A that was found, and what comes before it
-pub found_end : (bytes : List ℕ) (place : ℕ) → IsFirstByte (is_byte 0x0A) bytes (Some place)
-    → (take (place + 1) bytes ≡ take place bytes ++ 0x0A ∷ []) × All (λ c. c ≢ 0x0A) (take place bytes)
-    × (place < length bytes)
-found_end bytes place h =
-    let lt : place < length bytes = h.0.high in
-    let at : get_or bytes place 0 ≡ 0x0A = eqb-true (get_or bytes place 0) 0x0A h.1 in
-    let front = take place bytes in
+pub found_end : (bytes : List ℕ) (offset : ℕ) → IsFirstByte (is_byte 0x0A) bytes (Some offset)
+    → (take (offset + 1) bytes ≡ take offset bytes ++ 0x0A ∷ []) × All (λ c. c ≢ 0x0A) (take offset bytes)
+    × (offset < length bytes)
+found_end bytes offset h =
+    let lt : offset < length bytes = h.0.high in
+    let at : get_or bytes offset 0 ≡ 0x0A = eqb-true (get_or bytes offset 0) 0x0A h.1 in
+    let front = take offset bytes in
     let none : HasNoEnd front = λ k less is.
-    let inside : k < place = omega (arith, length-take-le place bytes (omega arith)) in
-    h.0.before k (omega arith) inside (eq-eqb _ _ (sym (get_or-take place bytes k 0 inside) ∙ is)) in
-    (take_more bytes place 0 lt ∙ ap (λ b. front ++ b ∷ []) at, All-from_get_or (λ c. c ≢ 0x0A) front 0 none, lt)
+    let inside : k < offset = omega (arith, length-take-le offset bytes (omega arith)) in
+    h.0.before k (omega arith) inside (eq-eqb _ _ (sym (get_or-take offset bytes k 0 inside) ∙ is)) in
+    (take_more bytes offset 0 lt ∙ ap (λ b. front ++ b ∷ []) at, All-from_get_or (λ c. c ≢ 0x0A) front 0 none, lt)
 
 -- none was found
 pub found_none : (bytes : List ℕ) → IsFirstByte (is_byte 0x0A) bytes None → All (λ c. c ≢ 0x0A) bytes
@@ -42,15 +42,15 @@ found_none bytes h =
     All-from_get_or (λ c. c ≢ 0x0A) bytes 0 none
 
 -- the last U+000A that was found, and what comes before it and after it
-pub found_last : (bytes : List ℕ) (place : ℕ) → IsLastByte (is_byte 0x0A) bytes (Some place)
-    → (take (place + 1) bytes ≡ take place bytes ++ 0x0A ∷ []) × All (λ c. c ≢ 0x0A) (drop (place + 1) bytes)
-    × (place < length bytes) × (get_or bytes place 0 ≡ 0x0A)
-found_last bytes place h =
-    let lt : place < length bytes = h.0.high in
-    let at : get_or bytes place 0 ≡ 0x0A = eqb-true (get_or bytes place 0) 0x0A h.1 in
-    let none : HasNoEnd (drop (place + 1) bytes) = λ k less is.
-    h.0.after (place + 1 + k) (omega arith) (omega (arith, length-drop (place + 1) bytes)) (eq-eqb _ _ (sym (get_or-drop (place + 1) bytes k 0) ∙ is)) in
-    (take_more bytes place 0 lt ∙ ap (λ b. take place bytes ++ b ∷ []) at, All-from_get_or (λ c. c ≢ 0x0A) (drop (place + 1) bytes) 0 none, lt, at)
+pub found_last : (bytes : List ℕ) (offset : ℕ) → IsLastByte (is_byte 0x0A) bytes (Some offset)
+    → (take (offset + 1) bytes ≡ take offset bytes ++ 0x0A ∷ []) × All (λ c. c ≢ 0x0A) (drop (offset + 1) bytes)
+    × (offset < length bytes) × (get_or bytes offset 0 ≡ 0x0A)
+found_last bytes offset h =
+    let lt : offset < length bytes = h.0.high in
+    let at : get_or bytes offset 0 ≡ 0x0A = eqb-true (get_or bytes offset 0) 0x0A h.1 in
+    let none : HasNoEnd (drop (offset + 1) bytes) = λ k less is.
+    h.0.after (offset + 1 + k) (omega arith) (omega (arith, length-drop (offset + 1) bytes)) (eq-eqb _ _ (sym (get_or-drop (offset + 1) bytes k 0) ∙ is)) in
+    (take_more bytes offset 0 lt ∙ ap (λ b. take offset bytes ++ b ∷ []) at, All-from_get_or (λ c. c ≢ 0x0A) (drop (offset + 1) bytes) 0 none, lt, at)
 
 -- a first line ends in U+000A, or there is none
 pub first_line-ends : (bytes : List ℕ) (n : ℕ) → IsFirstLine (take n bytes) (drop n bytes) → AreLines (take n bytes) ⊎ All (λ c. c ≢ 0x0A) bytes
@@ -62,11 +62,11 @@ first_line-ends bytes n first =
     ]
 
 -- what is read together ends in U+000A
-pub lines_end-found : (bytes : List ℕ) (front place : ℕ) → IsLastByte (is_byte 0x0A) (take front bytes) (Some place) → AreLines (take (place + 1) bytes)
-lines_end-found bytes front place h =
-    let found = found_last (take front bytes) place h in
-    let within : place + 1 ≤ front = omega (arith, found.2, length-take front bytes) in
-    inr (take place (take front bytes), sym (take-take (place + 1) front bytes within) ∙ found.0)
+pub lines_end-found : (bytes : List ℕ) (front offset : ℕ) → IsLastByte (is_byte 0x0A) (take front bytes) (Some offset) → AreLines (take (offset + 1) bytes)
+lines_end-found bytes front offset h =
+    let found = found_last (take front bytes) offset h in
+    let within : offset + 1 ≤ front = omega (arith, found.2, length-take front bytes) in
+    inr (take offset (take front bytes), sym (take-take (offset + 1) front bytes within) ∙ found.0)
 
 pub line_end-is : (bytes : List ℕ) (found : Option ℕ) → IsFirstByte (is_byte 0x0A) bytes found
     → IsFirstLine (take (line_end bytes found) bytes) (drop (line_end bytes found) bytes)
@@ -75,7 +75,7 @@ line_end-is bytes None h = record {
   no_end = found_none bytes h;
   ends = inr (take_all (length bytes) bytes (omega arith), drop_all (length bytes) bytes (omega arith));
 }
-line_end-is bytes (Some place) h = let found = found_end bytes place h in record { front = take place bytes; no_end = found.1; ends = inl found.0 }
+line_end-is bytes (Some offset) h = let found = found_end bytes offset h in record { front = take offset bytes; no_end = found.1; ends = inl found.0 }
 
 -- ---- of a text
 

@@ -11,7 +11,7 @@ use Rattle.lic_norm.specs.declared.reader.Reader.{Reader}
 use Rattle.lic_norm.proofs.ReaderLemmas.{more_lines, read_on}
 use Rattle.lic_norm.proofs.WholeLines.{more_bytes}
 
--- a reader that took lines at the start of the bytes up to a place has read up to where they end
+-- a reader that took lines at the start of the bytes up to an offset has read up to where they end
 module _ (old new : Reader) (here : List ℕ) (end n : ℕ) (read : HasRead old) (same : here ≡ old.source.items) (within : end ≤ length old.source.items)
     (few : n ≤ length (slice_range here old.line_start end)) where
   abbrev front : List ℕ

@@ -54,27 +54,27 @@ pub some_rest : (rest : List ℕ) → ¬ All NoEnd rest → 0 < length rest
 some_rest [] ended = absurd (ended (All-nil NoEnd))
 some_rest (b ∷ rest) ended = omega arith
 
--- the last U+000A, from a place on
-module _ (source : List ℕ) (from place : ℕ) (found : IsLastByte (is_byte 0x0A) (drop from source) (Some place)) where
-  pub last_within : from + place < length source
-  last_within = omega (arith, (found_last (drop from source) place found).2, length-drop from source)
+-- the last U+000A, from an offset on
+module _ (source : List ℕ) (from offset : ℕ) (found : IsLastByte (is_byte 0x0A) (drop from source) (Some offset)) where
+  pub last_within : from + offset < length source
+  last_within = omega (arith, (found_last (drop from source) offset found).2, length-drop from source)
 
-  -- it is in the rest from each place before it
-  pub has_ended : (at : ℕ) → at ≤ from + place → ¬ All NoEnd (drop at source)
+  -- it is in the rest from each offset before it
+  pub has_ended : (at : ℕ) → at ≤ from + offset → ¬ All NoEnd (drop at source)
   has_ended at before none =
-      let there : at + (from + place - at) ≡ from + place = omega arith in
-      All-get_or NoEnd (drop at source) (from + place - at) 0 (omega (arith, last_within, length-drop at source)) none
-      (get_or-drop at source (from + place - at) 0 ∙ ap (λ k. get_or source k 0) there
-      ∙ sym (get_or-drop from source place 0) ∙ (found_last (drop from source) place found).3)
+      let there : at + (from + offset - at) ≡ from + offset = omega arith in
+      All-get_or NoEnd (drop at source) (from + offset - at) 0 (omega (arith, last_within, length-drop at source)) none
+      (get_or-drop at source (from + offset - at) 0 ∙ ap (λ k. get_or source k 0) there
+      ∙ sym (get_or-drop from source offset 0) ∙ (found_last (drop from source) offset found).3)
 
-  -- and there is none from each place after it
-  pub none_later : (at : ℕ) → from + place < at → All NoEnd (drop at source)
+  -- and there is none from each offset after it
+  pub none_later : (at : ℕ) → from + offset < at → All NoEnd (drop at source)
   none_later at past =
-      let there : from + (place + 1) + (at - (from + place + 1)) ≡ at = omega arith in
+      let there : from + (offset + 1) + (at - (from + offset + 1)) ≡ at = omega arith in
       subst (All NoEnd)
-      (ap (drop (at - (from + place + 1))) (drop-drop (place + 1) from source)
-      ∙ drop-drop (at - (from + place + 1)) (from + (place + 1)) source ∙ ap (λ k. drop k source) there)
-      (All-drop NoEnd (at - (from + place + 1)) (drop (place + 1) (drop from source)) (found_last (drop from source) place found).1)
+      (ap (drop (at - (from + offset + 1))) (drop-drop (offset + 1) from source)
+      ∙ drop-drop (at - (from + offset + 1)) (from + (offset + 1)) source ∙ ap (λ k. drop k source) there)
+      (All-drop NoEnd (at - (from + offset + 1)) (drop (offset + 1) (drop from source)) (found_last (drop from source) offset found).1)
 
 -- after the last line that has ended there is no U+000A
 pub no_more_ends : (source : List ℕ) (at searched : ℕ) → at ≤ searched → All NoEnd (slice_range source at searched)

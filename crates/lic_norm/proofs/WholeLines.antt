@@ -86,7 +86,7 @@ first_tokens_of-line rules at line rest first =
     first_tokens_of-first rules at line line [] (sym (append-nil line)) by_itself
     ∙ ap (λ l. line_tokens_of rules at line ++ l) (first_tokens_of-none rules (at + length line)) ∙ append-nil (line_tokens_of rules at line)
 
--- the bytes up to a place, and those from there up to another
+-- the bytes up to an offset, and those from there up to another
 take_more_range : (source : List ℕ) (at end : ℕ) → at ≤ end → take end source ≡ take at source ++ slice_range source at end
 take_more_range source at end le = ap (λ n. take n source) (let e : end ≡ at + (end - at) = omega arith in e) ∙ take-add at (end - at) source
 

@@ -227,10 +227,10 @@ impl<'w> Reader<'w> {
         ensures words { phrases_of self.new.rewriting ≡ phrases_of self.old.rewriting }
         ensures rules { self.new.rules.now ≡ self.old.rules.now }
     {
-        let Some(place) = memrchr(b'\n', &self.source[from..]) else {
+        let Some(offset) = memrchr(b'\n', &self.source[from..]) else {
             return Ok(());
         };
-        let last = from + place;
+        let last = from + offset;
         while self.line_start <= last {
             self.take_next()?;
         }

@@ -10,20 +10,20 @@ use Rattle.lic_phrases.specs.Classes.{AreRepresentatives, classes_joined}
 use Rattle.lic_phrases.specs.WordLists.{AreWords}
 use Rattle.lic_phrases.specs.WordReading.{HasRead}
 use Rattle.lic_phrases.proofs.ClassLemmas.{first_phrase, next_phrase}
-use Rattle.lic_phrases.proofs.ListedLemmas.{place_here, place_later, line_is_read, nothing_read, words_with_heads}
+use Rattle.lic_phrases.proofs.ListedLemmas.{index_here, index_later, line_is_read, nothing_read, words_with_heads}
 use Rattle.lic_phrases.proofs.ReadingLemmas.{read_again, read_new, line_below}
 use Rattle.lic_phrases.proofs.WordsComputed.{Reading, same_phrase, with_phrase, with_phrases, joined_with, all_joined, line_ended, with_lines, words_computed}
 
--- ---- the place of a phrase
+-- ---- the index of a phrase
 
 same-Decides : (p q : List (List ℕ)) → Decides (same_phrase p q) (p ≡ q)
 same-Decides p q = slice_eq-Decides bytes_eq-Decides p q (same_phrase p q) refl
 
-place_within : {A : Type 0} (p : A → Bool) (xs : List A) → position_or_len p xs ≤ length xs
-place_within p [] = omega arith
-place_within p (x ∷ xs) = elim (cases_Bool (p x)) [
-  | inl e ↦ omega (arith, place_here p x xs e)
-  | inr e ↦ omega (arith, place_later p x xs e, place_within p xs)
+index_within : {A : Type 0} (p : A → Bool) (xs : List A) → position_or_len p xs ≤ length xs
+index_within p [] = omega arith
+index_within p (x ∷ xs) = elim (cases_Bool (p x)) [
+  | inl e ↦ omega (arith, index_here p x xs e)
+  | inr e ↦ omega (arith, index_later p x xs e, index_within p xs)
 ]
 
 found_at : (p : List (List ℕ)) (phrases : List (List (List ℕ)))
@@ -31,19 +31,19 @@ found_at : (p : List (List ℕ)) (phrases : List (List (List ℕ)))
     → get_or phrases (position_or_len (same_phrase p) phrases) [] ≡ p
 found_at p [] within = absurd (omega arith)
 found_at p (q ∷ phrases) within = elim (cases_Bool (same_phrase p q)) [
-  | inl e ↦ ap (λ i. get_or (q ∷ phrases) i []) (place_here (same_phrase p) q phrases e) ∙ sym ((same-Decides p q).0 e)
+  | inl e ↦ ap (λ i. get_or (q ∷ phrases) i []) (index_here (same_phrase p) q phrases e) ∙ sym ((same-Decides p q).0 e)
   | inr e ↦
-      let later = place_later (same_phrase p) q phrases e in
+      let later = index_later (same_phrase p) q phrases e in
       ap (λ i. get_or (q ∷ phrases) i []) later ∙ found_at p phrases (omega arith)
 ]
 
 absent_at : (p : List (List ℕ)) (phrases : List (List (List ℕ)))
     → length phrases ≤ position_or_len (same_phrase p) phrases → (i : ℕ) → i < length phrases → get_or phrases i [] ≢ p
 absent_at p [] many i within = absurd (omega arith)
-absent_at p (q ∷ phrases) many zero within = λ same. omega (arith, place_here (same_phrase p) q phrases ((same-Decides p q).1 (sym same)))
+absent_at p (q ∷ phrases) many zero within = λ same. omega (arith, index_here (same_phrase p) q phrases ((same-Decides p q).1 (sym same)))
 absent_at p (q ∷ phrases) many (suc i) within = elim (cases_Bool (same_phrase p q)) [
-  | inl e ↦ absurd (omega (arith, place_here (same_phrase p) q phrases e))
-  | inr e ↦ absent_at p phrases (omega (arith, place_later (same_phrase p) q phrases e)) i (omega arith)
+  | inl e ↦ absurd (omega (arith, index_here (same_phrase p) q phrases e))
+  | inr e ↦ absent_at p phrases (omega (arith, index_later (same_phrase p) q phrases e)) i (omega arith)
 ]
 
 -- ---- a line
@@ -54,18 +54,18 @@ Known lines line r = HasRead [] lines line r.phrases r.heads r.numbers
 with_phrase-known : (lines : List (List (List (List ℕ)))) (line : List (List (List ℕ))) (p : List (List ℕ))
     (r : Reading) → Known lines line r → Known lines (line ++ p ∷ []) (with_phrase p r)
 with_phrase-known lines line p r known =
-    let place = position_or_len (same_phrase p) r.phrases in
-    let old : Reading = record { phrases = r.phrases; heads = r.heads; numbers = r.numbers ++ place ∷ [] } in
-    let new : Reading = record { phrases = r.phrases ++ p ∷ []; heads = r.heads ++ length r.heads ∷ []; numbers = r.numbers ++ place ∷ [] } in
-    elim (cases_lt place (length r.phrases)) [
+    let index = position_or_len (same_phrase p) r.phrases in
+    let old : Reading = record { phrases = r.phrases; heads = r.heads; numbers = r.numbers ++ index ∷ [] } in
+    let new : Reading = record { phrases = r.phrases ++ p ∷ []; heads = r.heads ++ length r.heads ∷ []; numbers = r.numbers ++ index ∷ [] } in
+    elim (cases_lt index (length r.phrases)) [
       | inl within ↦
-          let test : nat_lt place (length r.phrases) ≡ true = grind (arith, nat_tests) in
+          let test : nat_lt index (length r.phrases) ≡ true = grind (arith, nat_tests) in
           subst (Known lines (line ++ p ∷ [])) (sym (ap (λ b. cond b old new) test))
-          (subst (λ q. HasRead [] lines (line ++ q ∷ []) r.phrases r.heads (r.numbers ++ place ∷ [])) (found_at p r.phrases within)
-          (read_again [] lines line r.phrases r.heads r.numbers known place within))
+          (subst (λ q. HasRead [] lines (line ++ q ∷ []) r.phrases r.heads (r.numbers ++ index ∷ [])) (found_at p r.phrases within)
+          (read_again [] lines line r.phrases r.heads r.numbers known index within))
       | inr beyond ↦
-          let test : nat_lt place (length r.phrases) ≡ false = grind (arith, nat_tests) in
-          let last : length r.phrases ≡ place = omega (arith, place_within (same_phrase p) r.phrases) in
+          let test : nat_lt index (length r.phrases) ≡ false = grind (arith, nat_tests) in
+          let last : length r.phrases ≡ index = omega (arith, index_within (same_phrase p) r.phrases) in
           subst (Known lines (line ++ p ∷ [])) (sym (ap (λ b. cond b old new) test))
           (subst (λ n. HasRead [] lines (line ++ p ∷ []) (r.phrases ++ p ∷ []) (r.heads ++ length r.heads ∷ []) (r.numbers ++ n ∷ [])) last
           (read_new [] lines line r.phrases r.heads r.numbers known p (absent_at p r.phrases beyond)))

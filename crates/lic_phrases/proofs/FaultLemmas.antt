@@ -9,7 +9,7 @@ use Rattle.lic_phrases.specs.Listed.{HasFault, HasNoFault}
 abbrev on_line : ℕ → List (List (List ℕ)) → List (ℕ × List (List ℕ))
 on_line number phrases = map (λ phrase. (number, phrase)) phrases
 
--- the phrases of a line from this place on
+-- the phrases of a line from this index on
 pub fault_from-drop : (line : List (List (List ℕ))) (k number before : ℕ) (later : List (ℕ × List (List ℕ)))
     (phrase : List (List ℕ)) → k < length line → phrase ≡ get_or line k []
     → fault_from before (on_line number (drop k line) ++ later)
@@ -20,7 +20,7 @@ fault_from-drop line k number before later phrase within is =
     ∙ ap (λ n. fault_or (fault_of before (get_or line k [])) number (fault_from (before + 1) (on_line number (drop n line) ++ later))) (sym (add-one k))
     ∙ ap (λ p. fault_or (fault_of before p) number (fault_from (before + 1) (on_line number (drop (k + 1) line) ++ later))) (sym is)
 
--- the lines from this place on
+-- the lines from this index on
 pub located-drop : (lines : List (List (List (List ℕ)))) (k number : ℕ) (line : List (List (List ℕ))) → k < length lines → line ≡ get_or lines k []
     → located number (drop k lines) ≡ on_line number line ++ located (number + 1) (drop (k + 1) lines)
 located-drop lines k number line within is =

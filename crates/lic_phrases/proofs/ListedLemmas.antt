@@ -21,24 +21,24 @@ use Rattle.lic_phrases.proofs.ClassLemmas.{new_line}
 use Rattle.lic_phrases.proofs.ReadingLemmas.{read_again, read_new, read_line}
 use Rattle.lic_phrases.proofs.WordClasses.{get-map, get_front, get_last, words_are}
 
--- the place of an element, step by step
-pub place_here : {A : Type 0} (p : A → Bool) (x : A) (xs : List A) → p x ≡ true → position_or_len p (x ∷ xs) ≡ 0
-place_here p x xs e = ap (λ b. cond (not b) (1 + position_or_len p xs) 0) e
+-- the index of an element, step by step
+pub index_here : {A : Type 0} (p : A → Bool) (x : A) (xs : List A) → p x ≡ true → position_or_len p (x ∷ xs) ≡ 0
+index_here p x xs e = ap (λ b. cond (not b) (1 + position_or_len p xs) 0) e
 
-pub place_later : {A : Type 0} (p : A → Bool) (x : A) (xs : List A) → p x ≡ false → position_or_len p (x ∷ xs) ≡ suc (position_or_len p xs)
-place_later p x xs e = ap (λ b. cond (not b) (1 + position_or_len p xs) 0) e ∙ omega arith
+pub index_later : {A : Type 0} (p : A → Bool) (x : A) (xs : List A) → p x ≡ false → position_or_len p (x ∷ xs) ≡ suc (position_or_len p xs)
+index_later p x xs e = ap (λ b. cond (not b) (1 + position_or_len p xs) 0) e ∙ omega arith
 
 any_here : {A : Type 0} (p : A → Bool) (x : A) (xs : List A) → p x ≡ false → list_any p (x ∷ xs) ≡ list_any p xs
 any_here p x xs e = ap (λ b. b || list_any p xs) e
 
-pub absent_place : {A : Type 0} (p : A → Bool) (xs : List A) → list_any p xs ≡ false → position_or_len p xs ≡ length xs
-absent_place p [] none = refl
-absent_place p (x ∷ xs) none = elim (cases_Bool (p x)) [
+pub absent_index : {A : Type 0} (p : A → Bool) (xs : List A) → list_any p xs ≡ false → position_or_len p xs ≡ length xs
+absent_index p [] none = refl
+absent_index p (x ∷ xs) none = elim (cases_Bool (p x)) [
   | inl e ↦ absurd (true≢false (sym (ap (λ b. b || list_any p xs) e) ∙ none))
-  | inr e ↦ place_later p x xs e ∙ ap suc (absent_place p xs (sym (any_here p x xs e) ∙ none)) ∙ omega arith
+  | inr e ↦ index_later p x xs e ∙ ap suc (absent_index p xs (sym (any_here p x xs e) ∙ none)) ∙ omega arith
 ]
 
--- a key that is found is that of the phrase at its place
+-- a key that is found is that of the phrase at its index
 pub found_phrase : {A : Type 0} (key : String A) (phrase : List (List ℕ)) (keys : List (String A)) (phrases : List (List (List ℕ)))
     → texts_in keys ≡ map key_of phrases → AreWithoutBlanks phrases → HaveNoBlank phrase → string_bytes key ≡ key_of phrase
     → position_or_len (string_eq key) keys < length keys → get_or phrases (position_or_len (string_eq key) keys) [] ≡ phrase
@@ -46,10 +46,10 @@ found_phrase key phrase [] phrases keyed no_blanks no_blank is within = absurd (
 found_phrase key phrase (k ∷ keys) [] keyed no_blanks no_blank is within = absurd (omega (arith, ap length keyed))
 found_phrase key phrase (k ∷ keys) (p ∷ phrases) keyed no_blanks no_blank is within = elim (cases_Bool (string_eq key k)) [
   | inl e ↦
-      ap (λ i. get_or (p ∷ phrases) i []) (place_here (string_eq key) k keys e)
+      ap (λ i. get_or (p ∷ phrases) i []) (index_here (string_eq key) k keys e)
       ∙ key_of-same p phrase no_blanks.0 no_blank (sym (head_of keyed) ∙ sym ((bytes_eq-Decides (string_bytes key) (string_bytes k)).0 e) ∙ is)
   | inr e ↦
-      let later = place_later (string_eq key) k keys e in
+      let later = index_later (string_eq key) k keys e in
       ap (λ i. get_or (p ∷ phrases) i []) later
       ∙ found_phrase key phrase keys phrases (ap (drop 1) keyed) no_blanks.1 no_blank is (omega arith)
 ]
@@ -111,8 +111,8 @@ module _ {A : Type 0} (keys keys' : List (String A)) (phrases phrases' : List Li
       let many : length keys ≡ length (phrases_in phrases) =
       sym (length-map keys (λ (t : String A). string_bytes t)) ∙ ap length known.keyed
       ∙ length-map (phrases_in phrases) key_of in
-      let place : number ≡ length (phrases_in phrases) = at ∙ absent_place (string_eq key) keys none ∙ many in
-      let head : number ≡ length heads = place ∙ sym read.as_many in
+      let index : number ≡ length (phrases_in phrases) = at ∙ absent_index (string_eq key) keys none ∙ many in
+      let head : number ≡ length heads = index ∙ sym read.as_many in
       let now : phrases_in phrases' ≡ phrases_in phrases ++ phrase ∷ [] =
       ap phrases_in ps ∙ map-append (λ (q : ListedPhrase). texts_in q.texts.items) phrases (p ∷ []) in
       let new = read_new [] lines line (phrases_in phrases) heads numbers read phrase
@@ -121,7 +121,7 @@ module _ {A : Type 0} (keys keys' : List (String A)) (phrases phrases' : List Li
       (subst (λ (l : List ℕ). HasRead [] lines (line ++ phrase ∷ []) (phrases_in phrases ++ phrase ∷ []) l (numbers ++ number ∷ [])) (sym hs)
       (subst (λ n. HasRead [] lines (line ++ phrase ∷ []) (phrases_in phrases ++ phrase ∷ []) (heads ++ n ∷ []) (numbers ++ number ∷ [])) (sym head)
       (subst (λ n. HasRead [] lines (line ++ phrase ∷ []) (phrases_in phrases ++ phrase ∷ [])
-      (heads ++ length heads ∷ []) (numbers ++ n ∷ [])) (sym place) new)))
+      (heads ++ length heads ∷ []) (numbers ++ n ∷ [])) (sym index) new)))
 
   -- a phrase that occurs there already
   pub reads_again : number ≡ position_or_len (string_eq key) keys → number < length keys → ReadsPhrase phrases heads phrases heads phrase number

@@ -11,7 +11,7 @@ map-itself (x ∷ xs) = ap (λ l. x ∷ l) (map-itself xs)
 pub length-texts_in : {A : Type 0} (texts : List (String A)) → length (texts_in texts) ≡ length texts
 length-texts_in texts = length-map texts _
 
--- the text at a place
+-- the text at an index
 pub text_at : {A : Type 0} (texts : List (String A)) (k : ℕ) (d : String A) → k < length texts → get_or (texts_in texts) k [] ≡ string_bytes (get_or texts k d)
 text_at [] k d h = absurd (omega arith)
 text_at (t ∷ texts) zero d h = refl
@@ -67,9 +67,9 @@ spelling_step texts i item parted before middle after h is p b m a =
     ∙ ap (λ n. spelled (take n (texts_in texts))) (sym (add-one i))
 
 -- whether two neighbours are parted
-pub parted_neighbours : {A : Type 0} (texts : List (String A)) (place j : ℕ) (a b : String A) → j + 1 ≡ place
-    → place < length texts → a ≡ get_or texts j a → b ≡ get_or texts place b
-    → is_parted_at (texts_in texts) place ≡ is_parted (string_bytes a) (string_bytes b)
+pub parted_neighbours : {A : Type 0} (texts : List (String A)) (index j : ℕ) (a b : String A) → j + 1 ≡ index
+    → index < length texts → a ≡ get_or texts j a → b ≡ get_or texts index b
+    → is_parted_at (texts_in texts) index ≡ is_parted (string_bytes a) (string_bytes b)
 parted_neighbours texts zero j a b e h is_a is_b = absurd (omega arith)
 parted_neighbours texts (suc k) j a b e h is_a is_b =
     let same : j ≡ k = omega arith in

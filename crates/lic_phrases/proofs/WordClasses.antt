@@ -158,7 +158,7 @@ module _ (keys : List (List (List ℕ))) (lines : List (List ℕ)) (heads : List
           ap (λ (w : Phrase). w.texts) (each x.0 x_in) ∙ x.2,
         );
     only = λ w has.
-        let at = place_of w has in
+        let at = index_of w has in
         subst (Contains (in_order phrases)) (ap (λ (v : Phrase). v.texts) (sym at.2))
         (subst (λ l. Contains l (key at.0)) (sym (flat_of lines))
         (contains-map key flat at.0 (ordered.all at.0 at.1)));
@@ -174,7 +174,7 @@ module _ (keys : List (List (List ℕ))) (lines : List (List ℕ)) (heads : List
         let earlier = ordered.order k at i (omega arith) in
         (earlier.0, earlier.1, phrase_at earlier.0 p (omega (arith, earlier.1)) ∙ ap key earlier.2 ∙ sym (texts_at i w (omega arith)));
     spellings = λ w has.
-        let at = place_of w has in (
+        let at = index_of w has in (
           key (get_or heads at.0 0),
           subst (λ t. IsFirst (in_order phrases) (Equivalent phrases t) (key (get_or heads at.0 0)))
               (ap (λ (v : Phrase). v.texts) (sym at.2)) (head_is_first at.0 at.1),
@@ -188,8 +188,8 @@ module _ (keys : List (List (List ℕ))) (lines : List (List ℕ)) (heads : List
       texts_at : (i : ℕ) (w : Phrase) → i < length keys → (get_or words i w).texts ≡ key i
       texts_at i w hi = ap (λ (v : Phrase). v.texts) (get_any words i w d (omega (arith, many)) ∙ each i hi)
 
-      place_of : (w : Phrase) → Contains words w → (i : ℕ) × (i < length keys) × (w ≡ record { texts = key i; spelling = spelled (key (get_or heads i 0)) })
-      place_of w (i, within, is) =
+      index_of : (w : Phrase) → Contains words w → (i : ℕ) × (i < length keys) × (w ≡ record { texts = key i; spelling = spelled (key (get_or heads i 0)) })
+      index_of w (i, within, is) =
           let i_in : i < length keys = omega (arith, many) in
           (i, i_in, sym is ∙ get_any words i w d within ∙ each i i_in)
 
@@ -200,8 +200,8 @@ get_front flat more k h = grind (arith, common_steps)
 pub get_last : (flat : List ℕ) (x k : ℕ) → k ≡ length flat → get_or (flat ++ x ∷ []) k 0 ≡ x
 get_last flat x k e = grind (arith, common_steps)
 
-place : (flat : List ℕ) (m : ℕ) → Contains flat m → (j : ℕ) × (j < length flat) × (get_or flat j 0 ≡ m)
-place flat m (k, within, is) = (k, within, get_any flat k 0 m within ∙ is)
+index : (flat : List ℕ) (m : ℕ) → Contains flat m → (j : ℕ) × (j < length flat) × (get_or flat j 0 ≡ m)
+index flat m (k, within, is) = (k, within, get_any flat k 0 m within ∙ is)
 
 pub again : (flat : List ℕ) (n q : ℕ) → q < n → AreInOrder flat n → AreInOrder (flat ++ q ∷ []) n
 again flat n q less known = record {
@@ -212,7 +212,7 @@ again flat n q less known = record {
         (e.0, e.1, get_front flat (q ∷ []) e.0 (omega (arith, e.1)) ∙ e.2)
     | inr new ↦
         let last : k ≡ length flat = omega (arith, length-append flat (q ∷ [])) in
-        let e = place flat m (known.all m (omega (arith, get_last flat q k last))) in
+        let e = index flat m (known.all m (omega (arith, get_last flat q k last))) in
         (e.0, omega (arith, e.1), get_front flat (q ∷ []) e.0 e.1 ∙ e.2)
   ];
   below = λ k h. elim (cases_lt k (length flat)) [
@@ -233,7 +233,7 @@ next_number flat n known = record {
         (e.0, e.1, get_front flat (n ∷ []) e.0 (omega (arith, e.1)) ∙ e.2)
     | inr new ↦
         let last : k ≡ length flat = omega (arith, length-append flat (n ∷ [])) in
-        let e = place flat m (known.all m (omega (arith, get_last flat n k last))) in
+        let e = index flat m (known.all m (omega (arith, get_last flat n k last))) in
         (e.0, omega (arith, e.1), get_front flat (n ∷ []) e.0 e.1 ∙ e.2)
   ];
   below = λ k h. elim (cases_lt k (length flat)) [

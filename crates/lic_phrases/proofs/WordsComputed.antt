@@ -16,11 +16,11 @@ pub record Reading : Type 0 where
 abbrev pub same_phrase : List (List ℕ) → List (List ℕ) → Bool
 same_phrase = pointwise bytes_eq
 
--- a phrase with the place at which it is, or would be
+-- a phrase with the index at which it is, or would be
 abbrev pub with_phrase_at : ℕ → List (List ℕ) → Reading → Reading
-with_phrase_at place phrase r =
-    if nat_lt place (length r.phrases) then record { phrases = r.phrases; heads = r.heads; numbers = r.numbers ++ place ∷ [] }
-    else record { phrases = r.phrases ++ phrase ∷ []; heads = r.heads ++ length r.heads ∷ []; numbers = r.numbers ++ place ∷ [] }
+with_phrase_at index phrase r =
+    if nat_lt index (length r.phrases) then record { phrases = r.phrases; heads = r.heads; numbers = r.numbers ++ index ∷ [] }
+    else record { phrases = r.phrases ++ phrase ∷ []; heads = r.heads ++ length r.heads ∷ []; numbers = r.numbers ++ index ∷ [] }
 
 abbrev pub with_phrase : List (List ℕ) → Reading → Reading
 with_phrase phrase r = with_phrase_at (position_or_len (same_phrase phrase) r.phrases) phrase r

@@ -19,7 +19,7 @@ same_texts = pointwise bytes_eq
 abbrev pub phrase_with : List Phrase → List (List ℕ) → Option Phrase
 phrase_with words texts = find (λ p. same_texts texts p.texts) words
 
--- the list with one more phrase, which takes the place of the one with the same texts, or comes last
+-- the list with one more phrase, which takes the index of the one with the same texts, or comes last
 abbrev pub with_added : List Phrase → Phrase → List Phrase
 with_added [] p = p ∷ []
 with_added (q ∷ words) p = if same_texts p.texts q.texts then p ∷ words else q ∷ with_added words p

@@ -27,7 +27,7 @@ spelled [] = []
 spelled (text ∷ []) = text
 spelled (text ∷ next ∷ texts) = text ++ (blank_if (is_parted text next) ++ spelled (next ∷ texts))
 
--- whether a blank comes before the text at this place
+-- whether a blank comes before the text at this index
 abbrev pub is_parted_at : List (List ℕ) → ℕ → Bool
 is_parted_at texts zero = false
 is_parted_at texts (suc k) = is_parted (slice_index_or texts k []) (slice_index_or texts (suc k) [])

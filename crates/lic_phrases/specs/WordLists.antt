@@ -100,7 +100,7 @@ pub record AreWords (lines : List (List (List (List ℕ)))) (words : List Phrase
   pub only : (w : Phrase) → Contains words w → Contains (in_order lines) w.texts
   pub once : (i j : ℕ) (w : Phrase) → i < length words → j < length words
       → (slice_index_or words i w).texts ≡ (slice_index_or words j w).texts → i ≡ j
-  -- before each place of a word in the file there is one of each word that comes before it here
+  -- before each index of a word in the file there is one of each word that comes before it here
   pub order : (i j k : ℕ) (w : Phrase) (p : List (List ℕ)) → i < j → j < length words → k < length (in_order lines)
       → slice_index_or (in_order lines) k p ≡ (slice_index_or words j w).texts
       → (e : ℕ) × (e < k) × (slice_index_or (in_order lines) e p ≡ (slice_index_or words i w).texts)

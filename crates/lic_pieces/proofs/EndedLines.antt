@@ -152,7 +152,7 @@ tokens_of_cells-unplaced rules cs =
     ∙ ap single_signs (bare-first cells)
     ∙ bare-signs (first_tokens cells)
 
--- tokens of characters that are nowhere are themselves without their places
+-- tokens of characters that are nowhere are themselves without their spans
 pub line_tokens-bare : (rules : LineRules) (part : LinePart) (cs : List ℕ)
     → map bare_token (line_tokens rules part (without_dropped (unplaced cs))) ≡ line_tokens rules part (without_dropped (unplaced cs))
 line_tokens-bare rules part cs =
@@ -216,7 +216,7 @@ some_token cells (suc n) long = lt-ltb 0 (suc n) (omega arith) ∙ ap not (sym (
 
 -- ---- a text of ASCII
 
--- the tokens of such lines, without their places
+-- the tokens of such lines, without their spans
 pub ended_tokens : (rules : LineRules) (before : Next) (text lines front past : List ℕ) → text ≡ lines ++ past → IsUtf8 lines → IsAscii lines
     → lines ≡ front ++ 0x0A ∷ []
     → map bare_token (first_tokens_of rules 0 lines) ++ piece_tokens rules true before past ≡ piece_tokens rules true before text

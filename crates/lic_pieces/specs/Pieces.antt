@@ -52,7 +52,7 @@ piece_cells rules at_line_start before text =
 unfoldable pub piece_tokens : LineRules → Bool → Next → List ℕ → List Token
 piece_tokens rules at_line_start before text = single_signs (first_tokens (piece_cells rules at_line_start before text))
 
--- a token without its place, as those of a piece are
+-- a token without its span, as those of a piece are
 abbrev pub bare_token : Token → Token
 bare_token t = record { text = t.text; start = 0; end = 0; after_blank = t.after_blank }
 

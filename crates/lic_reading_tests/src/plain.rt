@@ -35,8 +35,8 @@ fn character_at(bytes: &[u8], at: usize) -> (char, usize) {
 }
 
 /// The number of a byte, as spans have it.
-fn byte_number(place: usize) -> u32 {
-    u32::try_from(place).unwrap_or(u32::MAX)
+fn byte_number(offset: usize) -> u32 {
+    u32::try_from(offset).unwrap_or(u32::MAX)
 }
 
 /// Adds a character that begins and ends at these bytes, unless it is dropped.
@@ -60,13 +60,13 @@ fn add_characters(
     line: &[u8],
 ) -> Result<(), AllocError> {
     let mut next = 0;
-    for place in 0..line.len() {
-        if place < next {
+    for offset in 0..line.len() {
+        if offset < next {
             continue;
         }
-        let (char, length) = character_at(line, place);
-        next = place.saturating_add(length);
-        let (start, end) = (at.saturating_add(place), at.saturating_add(next));
+        let (char, length) = character_at(line, offset);
+        next = offset.saturating_add(length);
+        let (start, end) = (at.saturating_add(offset), at.saturating_add(next));
         add_character(characters, char, start, end)?;
     }
     Ok(())
@@ -94,8 +94,8 @@ fn add_lines(
     tokens: &mut Vec<FirstToken>,
 ) -> Result<(), AllocError> {
     let mut start = 0;
-    for (place, byte) in input.iter().enumerate() {
-        let end = place.saturating_add(1);
+    for (offset, byte) in input.iter().enumerate() {
+        let end = offset.saturating_add(1);
         if *byte == b'\n' || end == input.len() {
             let line = input.get(start..end).unwrap_or(b"");
             add_line(alloc, rules, start, line, tokens)?;

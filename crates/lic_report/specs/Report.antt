@@ -50,15 +50,15 @@ pub record AreAllLines (name : List ℕ) (set : List Known) (ask : Ask) (tokens 
 -- ---- outer matches and their variables
 
 -- the start, the end and the bytes of a span of the source, or a dash where there is no span
-abbrev pub place_fields : List ℕ → Option Span → List ℕ
-place_fields source None = field (codes "-") 0x0A
-place_fields source (Some span) =
+abbrev pub span_fields : List ℕ → Option Span → List ℕ
+span_fields source None = field (codes "-") 0x0A
+span_fields source (Some span) =
     field (decimal span.start) 0x09 ++ (field (decimal span.end) 0x09
     ++ field (escaped (slice_range source span.start span.end)) 0x0A)
 
 -- the line of a variable: an empty field, its name, and the bytes of the source that it matched
 abbrev pub value_line : List ℕ → Assigned → List ℕ
-value_line source v = field [] 0x09 ++ (field (escaped v.name) 0x09 ++ place_fields source v.span)
+value_line source v = field [] 0x09 ++ (field (escaped v.name) 0x09 ++ span_fields source v.span)
 
 -- a match, and a value for each variable of its template
 pub record Valued : Type 0 where

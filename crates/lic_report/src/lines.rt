@@ -6,7 +6,7 @@ ghost use Rattle.lic_fields.specs.Fields.{escaped, field};
 ghost use Rattle.lic_tokens.specs.declared.token.Span.{Span};
 ghost use Rattle.lic_vars.specs.Views.{value_of};
 ghost use Rattle.lic_report.specs.Checking.{check_line};
-ghost use Rattle.lic_report.specs.Report.{place_fields, value_line, no_known};
+ghost use Rattle.lic_report.specs.Report.{span_fields, value_line, no_known};
 
 use lic_fields::{add_number, add_text, add_two_numbers};
 use lic_norm::{Span, Text};
@@ -22,9 +22,9 @@ pub(crate) fn add_file(lines: &mut Vec<u8>, name: &str) -> Result<(), AllocError
 }
 
 /// Adds the start, the end and the bytes of a span of the text, or a dash where there is no span.
-fn add_place(lines: &mut Vec<u8>, text: &Text, span: Option<Span>) -> Result<(), AllocError>
+fn add_span(lines: &mut Vec<u8>, text: &Text, span: Option<Span>) -> Result<(), AllocError>
     requires { (s : Span) → span ≡ Some s → (s.start ≤ s.end) × (s.end ≤ length text.now.source) }
-    ensures { OnOk result (lines.new.items ≡ lines.old.items ++ place_fields text.now.source span) }
+    ensures { OnOk result (lines.new.items ≡ lines.old.items ++ span_fields text.now.source span) }
 {
     let Some(span) = span else {
         return add_text(lines, "-".as_bytes(), b'\n');
@@ -42,7 +42,7 @@ pub fn add_value(lines: &mut Vec<u8>, text: &Text, value: &Value<'_>) -> Result<
 {
     add_text(lines, "".as_bytes(), b'\t')?;
     add_text(lines, value.name.as_bytes(), b'\t')?;
-    add_place(lines, text, value.span)
+    add_span(lines, text, value.span)
 }
 
 /// Adds the line of a template: its identifier, its weight, and the verdict.

@@ -37,25 +37,25 @@ short_blank true = omega arith
 short_blank false = omega arith
 
 -- a blank was written, and n letters after it or over it
-module _ (old letters : List ℕ) (place len n : ℕ) (fits : place + (n + 1) ≤ length old) (long : n ≤ length letters) (short : len ≤ n) where
+module _ (old letters : List ℕ) (offset len n : ℕ) (fits : offset + (n + 1) ≤ length old) (long : n ≤ length letters) (short : len ≤ n) where
   abbrev blank_put : List ℕ
-  blank_put = slice_set old place 0x20
+  blank_put = slice_set old offset 0x20
 
-  front : (blank : Bool) → take (place + from_bool blank) blank_put ≡ take place old ++ blank_if blank
-  front true = take_more_set old place 0x20 (omega (arith, fits))
+  front : (blank : Bool) → take (offset + from_bool blank) blank_put ≡ take offset old ++ blank_if blank
+  front true = take_more_set old offset 0x20 (omega (arith, fits))
   front false =
-      ap (λ m. take m blank_put) (let e : place + 0 ≡ place = omega arith in e) ∙ take-set old place 0x20 ∙ sym (append-nil (take place old))
+      ap (λ m. take m blank_put) (let e : offset + 0 ≡ offset = omega arith in e) ∙ take-set old offset 0x20 ∙ sym (append-nil (take offset old))
 
-  pub written : (blank : Bool) (start : ℕ) (whole : List ℕ) → start ≡ place + from_bool blank → take (start + n) whole ≡ take start blank_put ++ take n letters
-      → take (start + len) whole ≡ take place old ++ (blank_if blank ++ take len letters)
+  pub written : (blank : Bool) (start : ℕ) (whole : List ℕ) → start ≡ offset + from_bool blank → take (start + n) whole ≡ take start blank_put ++ take n letters
+      → take (start + len) whole ≡ take offset old ++ (blank_if blank ++ take len letters)
   written blank start whole is copied =
-      let within : start ≤ length blank_put = omega (arith, is, small_bool blank, fits, length-set old place 0x20) in
+      let within : start ≤ length blank_put = omega (arith, is, small_bool blank, fits, length-set old offset 0x20) in
       sym (take-take (start + len) (start + n) whole (omega (arith, short)))
       ∙ ap (take (start + len)) copied
       ∙ ap (λ m. take (m + len) (take start blank_put ++ take n letters)) (sym (length-take-le start blank_put within))
       ∙ take-append-add (take start blank_put) (take n letters) len
       ∙ ap₂ (λ (a b : List ℕ). a ++ b) (ap (λ m. take m blank_put) is ∙ front blank) (take-take len n letters short)
-      ∙ append_assoc (take place old) (blank_if blank) (take len letters)
+      ∙ append_assoc (take offset old) (blank_if blank) (take len letters)
 
 -- whether a text ends in a word, by its last byte
 pub word_after : (front text : List ℕ) (n : ℕ) (word : Bool) → IsUtf8 front → IsUtf8 text → HasWords text → n + 1 ≡ length text
@@ -100,7 +100,7 @@ module _ (before tokens : List TokenValue) (bytes text : List ℕ) (entries : Li
             utf8 is grown long (sym (append_assoc others entries (e ∷ []))) (known.kept spelling others kept));
       }
 
--- ---- tokens of a stretch
+-- ---- tokens of a section
 
 pub none_spelled_yet : (tokens : List Token) (i : ℕ) (rewriting : Rewriting) → HasSpelledUpTo tokens i i rewriting [] []
 none_spelled_yet tokens i rewriting = record {
@@ -145,7 +145,7 @@ one_more_spelled tokens i next after rewriting bytes bytes' entries entries' tok
 module _ (tokens : List Token) (i : ℕ) (rewriting : Rewriting) (batch : Batch) (state : Spelled) (text : List ℕ)
     (known : AreInBatch tokens i rewriting batch state) (utf8 : IsUtf8 text) (is : IsTokenText text) (words : HasWords text) where
   abbrev so_far : List ℕ
-  so_far = take state.place batch.bytes
+  so_far = take state.offset batch.bytes
 
   abbrev parted : Bool
   parted = is_parted (spelled (texts_of rewriting.tokens) ++ so_far) text

@@ -1,13 +1,13 @@
--- The tokens that are left of lines once the places of some that are taken have been let go of. The last of those stays.
+-- The tokens that are left of lines once the offsets of some that are taken have been let go of. The last of those stays.
 use Rattle.std.proofs.Common.{◌≡◌, ℕ, zero, suc, ◌+◌, ◌-◌, ◌<◌, ◌≤◌, Bool, true, false, List, [], ◌∷◌, ◌++◌, length, drop, get_or, refl, sym, ap, subst, ◌∙◌, arith, append_assoc, append-nil, length-drop}
 use Rattle.std.proofs.lemmas.List.{drop_all, get_or-drop}
 use Rattle.std.proofs.lemmas.List.Elements.{All-cons, All-head, All-tail}
 use Rattle.std.specs.Str.{IsCharBoundary}
 use Rattle.lic_columns.specs.SpanTokens.{span_tokens, spans_by}
-use Rattle.lic_columns.specs.TokenPlaces.{TokenPlaces}
+use Rattle.lic_columns.specs.TokenOffsets.{TokenOffsets}
 use Rattle.lic_lines.specs.Tokens.{Token, single_signs}
 use Rattle.lic_phrases.specs.TokenTexts.{IsTokenText}
-use Rattle.lic_rewriting.specs.Stretches.{AreTokenPlaces, tokens_at}
+use Rattle.lic_rewriting.specs.Sections.{AreTokenOffsets, tokens_at}
 use Rattle.lic_rewriting.specs.Taking.{HasTaken, HasTakenUpTo}
 use Rattle.lic_tokens.specs.Tokens.{HaveTexts}
 use Rattle.lic_rewriting.specs.declared.rewriting.Rewriting.{Rewriting}
@@ -32,43 +32,43 @@ texts_after a b at m n letters (s ∷ starts) (e ∷ ends) zero same lt texts =
 texts_after a b at m n letters (s ∷ starts) (e ∷ ends) (suc k) same lt texts =
     texts_after a false at m e letters starts ends k (omega arith) (omega arith) (All-tail (λ t. IsTokenText t.text) _ _ texts)
 
--- the places that are left
-abbrev pub left : ℕ → TokenPlaces → TokenPlaces
-left k places = record places { starts = drop k places.starts; ends = drop k places.ends }
+-- the offsets that are left
+abbrev pub left : ℕ → TokenOffsets → TokenOffsets
+left k offsets = record offsets { starts = drop k offsets.starts; ends = drop k offsets.ends }
 
-module _ (at : ℕ) (places : TokenPlaces) (are : AreTokenPlaces at places) (k : ℕ) (lt : k < length places.starts) where
-  pub left_tokens : drop 1 (tokens_at at (left k places)) ≡ drop (suc k) (tokens_at at places)
-  left_tokens = same_after true true at at at places.letters places.starts places.ends k are.paired lt
+module _ (at : ℕ) (offsets : TokenOffsets) (are : AreTokenOffsets at offsets) (k : ℕ) (lt : k < length offsets.starts) where
+  pub left_tokens : drop 1 (tokens_at at (left k offsets)) ≡ drop (suc k) (tokens_at at offsets)
+  left_tokens = same_after true true at at at offsets.letters offsets.starts offsets.ends k are.paired lt
 
-  pub left_texts : HaveTexts (tokens_at at places) → HaveTexts (tokens_at at (left k places))
-  left_texts = texts_after true true at at at places.letters places.starts places.ends k are.paired lt
+  pub left_texts : HaveTexts (tokens_at at offsets) → HaveTexts (tokens_at at (left k offsets))
+  left_texts = texts_after true true at at at offsets.letters offsets.starts offsets.ends k are.paired lt
 
-  inside : (i : ℕ) → i < length (drop k places.starts) → k + i < length places.starts
-  inside i low = omega (arith, length-drop k places.starts)
+  inside : (i : ℕ) → i < length (drop k offsets.starts) → k + i < length offsets.starts
+  inside i low = omega (arith, length-drop k offsets.starts)
 
-  start : (i : ℕ) → get_or (drop k places.starts) i 0 ≡ get_or places.starts (k + i) 0
-  start i = get_or-drop k places.starts i 0
+  start : (i : ℕ) → get_or (drop k offsets.starts) i 0 ≡ get_or offsets.starts (k + i) 0
+  start i = get_or-drop k offsets.starts i 0
 
-  end : (i : ℕ) → get_or (drop k places.ends) i 0 ≡ get_or places.ends (k + i) 0
-  end i = get_or-drop k places.ends i 0
+  end : (i : ℕ) → get_or (drop k offsets.ends) i 0 ≡ get_or offsets.ends (k + i) 0
+  end i = get_or-drop k offsets.ends i 0
 
-  pub left_places : AreTokenPlaces at (left k places)
-  left_places = record {
+  pub left_offsets : AreTokenOffsets at (left k offsets)
+  left_offsets = record {
     utf8 = are.utf8;
     words = are.words;
-    paired = length-drop k places.ends ∙ ap (λ n. n - k) are.paired ∙ sym (length-drop k places.starts);
+    paired = length-drop k offsets.ends ∙ ap (λ n. n - k) are.paired ∙ sym (length-drop k offsets.starts);
     from = λ i low. omega (arith, start i, are.from (k + i) (inside i low));
     some = λ i low. omega (arith, start i, end i, are.some (k + i) (inside i low));
     to = λ i low. omega (arith, end i, are.to (k + i) (inside i low));
-    begin = λ i low. subst (λ n. IsCharBoundary places.letters (n - at)) (sym (start i)) (are.begin (k + i) (inside i low));
-    end = λ i low. subst (λ n. IsCharBoundary places.letters (n - at)) (sym (end i)) (are.end (k + i) (inside i low));
+    begin = λ i low. subst (λ n. IsCharBoundary offsets.letters (n - at)) (sym (start i)) (are.begin (k + i) (inside i low));
+    end = λ i low. subst (λ n. IsCharBoundary offsets.letters (n - at)) (sym (end i)) (are.end (k + i) (inside i low));
   }
 
   -- one part more: what was taken before it, and then the part
-  pub part_taken : (from next : ℕ) (tokens whole : List Token) (more : TokenPlaces) (first before after : Rewriting) → tokens ≡ tokens_at at places
-      → more ≡ left k places → suc k ≡ next
+  pub part_taken : (from next : ℕ) (tokens whole : List Token) (more : TokenOffsets) (first before after : Rewriting) → tokens ≡ tokens_at at offsets
+      → more ≡ left k offsets → suc k ≡ next
       → ((taken : List Token) → HasTaken first taken → (front : List Token) × HasTaken before (taken ++ front)
-      × (front ++ single_signs (drop from (tokens_at at places)) ≡ single_signs whole))
+      × (front ++ single_signs (drop from (tokens_at at offsets)) ≡ single_signs whole))
       → HasTakenUpTo tokens from next before after
       → (taken : List Token) → HasTaken first taken → (front : List Token) × HasTaken after (taken ++ front)
       × (front ++ single_signs (drop 1 (tokens_at at more)) ≡ single_signs whole)
@@ -76,8 +76,8 @@ module _ (at : ℕ) (places : TokenPlaces) (are : AreTokenPlaces at places) (k :
       let one = so_far taken has in
       let two = part (taken ++ one.0) one.1 in
       let rest : single_signs (drop 1 (tokens_at at more)) ≡ single_signs (drop next tokens) =
-      ap (λ (p : TokenPlaces). single_signs (drop 1 (tokens_at at p))) left_is ∙ ap single_signs left_tokens
-      ∙ ap (λ n. single_signs (drop n (tokens_at at places))) last ∙ ap (λ l. single_signs (drop next l)) (sym is) in (
+      ap (λ (p : TokenOffsets). single_signs (drop 1 (tokens_at at p))) left_is ∙ ap single_signs left_tokens
+      ∙ ap (λ n. single_signs (drop n (tokens_at at offsets))) last ∙ ap (λ l. single_signs (drop next l)) (sym is) in (
         one.0 ++ two.0,
         subst (HasTaken after) (append_assoc taken one.0 two.0) two.1,
         append_assoc one.0 two.0 (single_signs (drop 1 (tokens_at at more)))

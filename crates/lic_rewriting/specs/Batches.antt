@@ -18,8 +18,8 @@ pub record HasSpelledUpTo (tokens : List Token) (i next : ℕ) (rewriting : Rewr
 
 -- the tokens from the number `i` on are in a batch, as far as they are spelled there, each in at most 33 bytes
 pub record AreInBatch (tokens : List Token) (i : ℕ) (rewriting : Rewriting) (batch : Batch) (state : Spelled) : Type 0 where
-  pub short : state.place ≤ 33 * state.count
+  pub short : state.offset ≤ 33 * state.count
   pub utf8 : IsUtf8 (spelled (texts_of rewriting.tokens))
-  pub holds : HasSpelledUpTo tokens i (i + state.count) rewriting (take state.place batch.bytes)
+  pub holds : HasSpelledUpTo tokens i (i + state.count) rewriting (take state.offset batch.bytes)
       (entries_by (take state.count batch.ends) (take state.count batch.sources))
-  pub word : state.after_word ≡ ends_in_word (spelled (texts_of rewriting.tokens) ++ take state.place batch.bytes)
+  pub word : state.after_word ≡ ends_in_word (spelled (texts_of rewriting.tokens) ++ take state.offset batch.bytes)

@@ -1,3 +1,3 @@
 pub mod Taking
-pub mod Stretches
+pub mod Sections
 pub mod Batches

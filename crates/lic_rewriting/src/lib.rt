@@ -2,9 +2,9 @@
 #![tactic(auto)]
 
 mod rewriting;
-mod stretch;
+mod section;
 mod word_bytes;
 
 pub use rewriting::batch::Batch;
 pub use rewriting::{PartBuffers, Rewriting};
-pub use stretch::Stretch;
+pub use section::Section;

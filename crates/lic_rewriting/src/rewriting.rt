@@ -6,7 +6,7 @@ ghost use Rattle.lic_lines.specs.Tokens.{Token, single_signs, text_tokens_after,
 ghost use Rattle.lic_phrases.specs.Rewriting.{rewritten};
 ghost use Rattle.lic_phrases.specs.Settling.{nothing_kept};
 ghost use Rattle.lic_phrases.specs.TokenTexts.{HaveTokenTexts, IsTokenText};
-ghost use Rattle.lic_rewriting.specs.Stretches.{AreTokenPlaces, tokens_at};
+ghost use Rattle.lic_rewriting.specs.Sections.{AreTokenOffsets, tokens_at};
 ghost use Rattle.lic_rewriting.specs.Taking.{HasTaken, HasTakenSome, HasTakenUpTo, listed_by, phrases_of};
 ghost use Rattle.lic_tokens.specs.Tokens.{HaveTexts, reported};
 
@@ -14,7 +14,7 @@ pub(crate) mod batch;
 mod long;
 
 use crate::rewriting::batch::{Batch, Spelled, is_word_at, plain_text, spell};
-use crate::stretch::Stretch;
+use crate::section::Section;
 use lic_columns::Lines;
 use lic_lines::{
     Buffers, FirstToken, FrontPart, Rules, SmallString, TextStart, front_part, start_of_text,
@@ -200,16 +200,16 @@ impl<'w> Rewriting<'w> {
     #[inline(never)]
     fn take_plain(
         &mut self,
-        stretch: &Stretch<'_>,
+        section: &Section<'_>,
         i: usize,
         until: usize,
         batch: &mut Batch,
     ) -> Result<usize, AllocError>
-        requires within { i ≤ length stretch.now }
-        requires texts { HaveTexts stretch.now }
+        requires within { i ≤ length section.now }
+        requires texts { HaveTexts section.now }
         ensures from { IfOk result (λ next. i ≤ next) }
-        ensures within { IfOk result (λ next. next ≤ length stretch.now) }
-        ensures taken { IfOk result (λ next. HasTakenUpTo stretch.now i next self.old self.new) }
+        ensures within { IfOk result (λ next. next ≤ length section.now) }
+        ensures taken { IfOk result (λ next. HasTakenUpTo section.now i next self.old self.new) }
         ensures phrases { self.new.phrases.now ≡ self.old.phrases.now }
         ensures settled { self.new.settled.items ≡ self.old.settled.items }
     {
@@ -218,8 +218,8 @@ impl<'w> Rewriting<'w> {
         }
         let mut next = i;
         while next < until {
-            let after = self.take_batch(stretch, next, batch)?;
-            next = self.take_one(stretch, after)?;
+            let after = self.take_batch(section, next, batch)?;
+            next = self.take_one(section, after)?;
             if next == after {
                 return Ok(next);
             }
@@ -229,53 +229,53 @@ impl<'w> Rewriting<'w> {
 
     /// Takes the token number `i` of lines, if there is one and it is plain. Gives the number of the next.
     #[inline(never)]
-    fn take_one(&mut self, stretch: &Stretch<'_>, i: usize) -> Result<usize, AllocError>
-        requires within { i ≤ length stretch.now }
+    fn take_one(&mut self, section: &Section<'_>, i: usize) -> Result<usize, AllocError>
+        requires within { i ≤ length section.now }
         requires none { self.old.rewriter ≡ nothing_kept }
-        requires texts { HaveTexts stretch.now }
+        requires texts { HaveTexts section.now }
         ensures from { IfOk result (λ next. i ≤ next) }
-        ensures within { IfOk result (λ next. next ≤ length stretch.now) }
-        ensures taken { IfOk result (λ next. HasTakenUpTo stretch.now i next self.old self.new) }
+        ensures within { IfOk result (λ next. next ≤ length section.now) }
+        ensures taken { IfOk result (λ next. HasTakenUpTo section.now i next self.old self.new) }
         ensures none { self.new.rewriter ≡ self.old.rewriter }
         ensures phrases { self.new.phrases.now ≡ self.old.phrases.now }
         ensures settled { self.new.settled.items ≡ self.old.settled.items }
     {
-        if i >= stretch.len() {
+        if i >= section.len() {
             return Ok(i);
         }
-        let Some(text) = plain_text(self.phrases, stretch, i) else {
+        let Some(text) = plain_text(self.phrases, section, i) else {
             return Ok(i);
         };
         let (begins, ends) = (is_word_at(text, 0), is_word_at(text, text.len() - 1));
         self.tokens
-            .push_bytes(text, begins, ends, stretch.start(i), stretch.end(i))?;
+            .push_bytes(text, begins, ends, section.start(i), section.end(i))?;
         Ok(i + 1)
     }
 
     /// Takes tokens of lines together, from the number `i` on, as long as each is plain and short. Gives the number of the next.
     fn take_batch(
         &mut self,
-        stretch: &Stretch<'_>,
+        section: &Section<'_>,
         i: usize,
         batch: &mut Batch,
     ) -> Result<usize, AllocError>
-        requires within { i ≤ length stretch.now }
+        requires within { i ≤ length section.now }
         requires none { self.old.rewriter ≡ nothing_kept }
-        requires texts { HaveTexts stretch.now }
+        requires texts { HaveTexts section.now }
         ensures from { IfOk result (λ next. i ≤ next) }
-        ensures within { IfOk result (λ next. next ≤ length stretch.now) }
-        ensures taken { IfOk result (λ next. HasTakenUpTo stretch.now i next self.old self.new) }
+        ensures within { IfOk result (λ next. next ≤ length section.now) }
+        ensures taken { IfOk result (λ next. HasTakenUpTo section.now i next self.old self.new) }
         ensures none { self.new.rewriter ≡ self.old.rewriter }
         ensures phrases { self.new.phrases.now ≡ self.old.phrases.now }
         ensures settled { self.new.settled.items ≡ self.old.settled.items }
     {
         let Spelled {
             count,
-            place,
+            offset,
             after_word,
-        } = spell(self, stretch, i, batch);
+        } = spell(self, section, i, batch);
         self.tokens.add(
-            &batch.bytes[..place],
+            &batch.bytes[..offset],
             &batch.ends[..count],
             &batch.sources[..count],
             after_word,
@@ -289,29 +289,29 @@ impl<'w> Rewriting<'w> {
     fn take_next(
         &mut self,
         alloc: Global,
-        stretch: &Stretch<'_>,
+        section: &Section<'_>,
         i: usize,
     ) -> Result<usize, AllocError>
-        requires within { i ≤ length stretch.now }
+        requires within { i ≤ length section.now }
         requires emptied { self.old.settled.items ≡ [] }
         requires before { HasTakenSome self.old }
-        requires texts { HaveTexts stretch.now }
-        ensures from { IfOk result (λ next. min (i + 1) (length stretch.now) ≤ next) }
-        ensures within { IfOk result (λ next. next ≤ length stretch.now) }
-        ensures taken { IfOk result (λ next. HasTakenUpTo stretch.now i next self.old self.new) }
+        requires texts { HaveTexts section.now }
+        ensures from { IfOk result (λ next. min (i + 1) (length section.now) ≤ next) }
+        ensures within { IfOk result (λ next. next ≤ length section.now) }
+        ensures taken { IfOk result (λ next. HasTakenUpTo section.now i next self.old self.new) }
         ensures phrases { self.new.phrases.now ≡ self.old.phrases.now }
         ensures emptied { OnOk result (self.new.settled.items ≡ []) }
     {
-        if i >= stretch.len() {
+        if i >= section.len() {
             return Ok(i);
         }
-        let text = stretch.text(i);
-        let (start, blank) = (stretch.start(i), stretch.after_blank(i));
-        if stretch.is_sign(i, text) {
-            self.push_text(alloc, "copyright", start, stretch.end(i + 2), blank)?;
+        let text = section.text(i);
+        let (start, blank) = (section.start(i), section.after_blank(i));
+        if section.is_sign(i, text) {
+            self.push_text(alloc, "copyright", start, section.end(i + 2), blank)?;
             return Ok(i + 3);
         }
-        self.push_text(alloc, utf8_text(text), start, stretch.end(i), blank)?;
+        self.push_text(alloc, utf8_text(text), start, section.end(i), blank)?;
         Ok(i + 1)
     }
 
@@ -320,46 +320,46 @@ impl<'w> Rewriting<'w> {
     fn take_until(
         &mut self,
         alloc: Global,
-        stretch: &Stretch<'_>,
+        section: &Section<'_>,
         from: usize,
         until: usize,
         batch: &mut Batch,
     ) -> Result<usize, AllocError>
-        requires within { from ≤ length stretch.now }
+        requires within { from ≤ length section.now }
         requires emptied { self.old.settled.items ≡ [] }
         requires before { HasTakenSome self.old }
-        requires texts { HaveTexts stretch.now }
-        ensures from { IfOk result (λ next. min until (length stretch.now) ≤ next) }
-        ensures within { IfOk result (λ next. next ≤ length stretch.now) }
-        ensures taken { IfOk result (λ next. HasTakenUpTo stretch.now from next self.old self.new) }
+        requires texts { HaveTexts section.now }
+        ensures from { IfOk result (λ next. min until (length section.now) ≤ next) }
+        ensures within { IfOk result (λ next. next ≤ length section.now) }
+        ensures taken { IfOk result (λ next. HasTakenUpTo section.now from next self.old self.new) }
         ensures phrases { self.new.phrases.now ≡ self.old.phrases.now }
         ensures emptied { OnOk result (self.new.settled.items ≡ []) }
     {
-        let until = until.min(stretch.len());
+        let until = until.min(section.len());
         let mut next = from;
         while next < until {
-            next = self.take_plain(stretch, next, until, batch)?;
-            next = self.take_next(alloc, stretch, next)?;
+            next = self.take_plain(section, next, until, batch)?;
+            next = self.take_next(alloc, section, next)?;
         }
         Ok(next)
     }
 
     /// Takes the tokens of lines, each copyright sign as one, and lists the tokens that are settled then.
-    pub fn take_stretch(
+    pub fn take_section(
         &mut self,
         alloc: Global,
-        stretch: &Stretch<'_>,
+        section: &Section<'_>,
         batch: &mut Batch,
     ) -> Result<(), AllocError>
         requires before { HasTakenSome self.old }
-        requires texts { HaveTexts stretch.now }
+        requires texts { HaveTexts section.now }
         ensures taken { OnOk result ((taken : List Token) → HasTaken self.old taken
-            → HasTaken self.new (taken ++ single_signs stretch.now)) }
+            → HasTaken self.new (taken ++ single_signs section.now)) }
         ensures phrases { phrases_of self.new ≡ phrases_of self.old }
     {
         self.settled.clear();
-        self.tokens.reserve(stretch.len(), stretch.bytes())?;
-        self.take_until(alloc, stretch, 0, stretch.len(), batch)?;
+        self.tokens.reserve(section.len(), section.bytes())?;
+        self.take_until(alloc, section, 0, section.len(), batch)?;
         Ok(())
     }
 
@@ -374,7 +374,7 @@ impl<'w> Rewriting<'w> {
         batch: &mut Batch,
     ) -> Result<(), AllocError>
         requires before { HasTakenSome self.old }
-        requires places { AreTokenPlaces at lines.old }
+        requires offsets { AreTokenOffsets at lines.old }
         requires texts { HaveTexts (tokens_at at lines.old) }
         ensures taken { OnOk result ((taken : List Token) → HasTaken self.old taken
             → HasTaken self.new (taken ++ single_signs (tokens_at at lines.old))) }
@@ -386,8 +386,8 @@ impl<'w> Rewriting<'w> {
         let mut from = 0;
         while from < lines.starts().len() {
             let part = (lines.starts().len() / 2).max(PART);
-            let stretch = Stretch::of(at, lines);
-            let next = self.take_until(alloc, &stretch, from, from + part, batch)?;
+            let section = Section::of(at, lines);
+            let next = self.take_until(alloc, &section, from, from + part, batch)?;
             lines.let_go(next - 1);
             from = 1;
         }
@@ -440,25 +440,25 @@ impl<'w> Rewriting<'w> {
     {
         self.settled.clear();
         let mut after_blank = true;
-        let mut place = 0;
-        while place < text.len() {
-            let rest = &text[place..];
+        let mut offset = 0;
+        while offset < text.len() {
+            let rest = &text[offset..];
             match start_of_text(alloc, rest, letters)? {
                 TextStart::Blank => {
                     after_blank = true;
-                    place += 1;
+                    offset += 1;
                 }
                 TextStart::Token(length) => {
                     let start = rest[0].start;
                     let end = rest[length - 1].end;
                     self.take_text(alloc, letters.as_str(), start, end, after_blank)?;
                     after_blank = false;
-                    place += length;
+                    offset += length;
                 }
                 TextStart::Other => {
                     let part = self.take_front(alloc, rules, after_blank, rest, buffers)?;
                     after_blank = part.blank_after;
-                    place += part.length;
+                    offset += part.length;
                 }
             }
         }

@@ -18,9 +18,9 @@ bit_of xs ys first b low e =
 module _ (row : List ℕ) (first last : ℕ) (order : first ≤ last) (fits : last < length row) where
   pub has_part : (b : ℕ) → first * 64 ≤ b → b < (last + 1) * 64 → has (slice_range row first (last + 1)) (b - first * 64) ≡ has row b
   has_part b low high =
-      let place : first + (b / 64 - first) ≡ b / 64 = omega arith in
+      let index : first + (b / 64 - first) ≡ b / 64 = omega arith in
       bit_of (slice_range row first (last + 1)) row first b low
-      (get_or-between row first (last + 1) (b / 64 - first) 0 (omega arith) ∙ ap (λ k. get_or row k 0) place)
+      (get_or-between row first (last + 1) (b / 64 - first) 0 (omega arith) ∙ ap (λ k. get_or row k 0) index)
 
   module _ (s : List ℕ) (len : length s ≡ last + 1 - first) where
     pub below_mid : (k : ℕ) → k < first → get_or (put_mid first (last + 1 - first) row s) k 0 ≡ get_or row k 0

@@ -37,8 +37,8 @@ module _ (wanted : ℕ → Bool) (from to : ℕ) (order : from ≤ to) where
     | inl low ↦ l.passed b after low
     | inr high ↦
         let i : ℕ = b - at * 64 in
-        let place : at * 64 + i ≡ b = omega arith in
-        ap wanted (sym place) ∙ sym (l.inside i (omega arith) (omega arith)) ∙ ap (λ w. bit_at w i == 1) none ∙ ap (λ x. x == 1) (bit_at-zero i)
+        let index : at * 64 + i ≡ b = omega arith in
+        ap wanted (sym index) ∙ sym (l.inside i (omega arith) (omega arith)) ∙ ap (λ w. bit_at w i == 1) none ∙ ap (λ x. x == 1) (bit_at-zero i)
   ]
 
   pub Looks-more : (at word next : ℕ) → Looks wanted from to at word → word ≡ 0 → at < to / 64 → next < 2 ^ 64
@@ -56,21 +56,21 @@ module _ (wanted : ℕ → Bool) (from to : ℕ) (order : from ≤ to) where
   none_found at word l none last b after before = none_here at word l none b after (omega (arith, l.within))
 
   module _ (at word : ℕ) (l : Looks wanted from to at word) (some : 0 < word) where
-    pub place_is : trailing_zeros w64 word < 64
-    place_is = (bit_at-trailing_zeros w64 word some l.fits).0
+    pub index_is : trailing_zeros w64 word < 64
+    index_is = (bit_at-trailing_zeros w64 word some l.fits).0
 
-    pub place_after : from ≤ at * 64 + trailing_zeros w64 word
-    place_after =
+    pub index_after : from ≤ at * 64 + trailing_zeros w64 word
+    index_after =
         let t = bit_at-trailing_zeros w64 word some l.fits in
         elim (cases_lt (at * 64 + trailing_zeros w64 word) from) [
           | inl low ↦ absurd (let none = l.outside (trailing_zeros w64 word) t.0 low in let one = t.1 in omega arith)
           | inr high ↦ high
         ]
 
-    pub place_wanted : wanted (at * 64 + trailing_zeros w64 word) ≡ true
-    place_wanted =
+    pub index_wanted : wanted (at * 64 + trailing_zeros w64 word) ≡ true
+    index_wanted =
         let t = bit_at-trailing_zeros w64 word some l.fits in
-        sym (l.inside (trailing_zeros w64 word) t.0 place_after) ∙ eq-eqb _ 1 t.1
+        sym (l.inside (trailing_zeros w64 word) t.0 index_after) ∙ eq-eqb _ 1 t.1
 
     pub none_before : (b : ℕ) → from ≤ b → b < at * 64 + trailing_zeros w64 word → wanted b ≡ false
     none_before b after before = elim (cases_lt b (at * 64)) [
@@ -78,9 +78,9 @@ module _ (wanted : ℕ → Bool) (from to : ℕ) (order : from ≤ to) where
       | inr high ↦
           let t = bit_at-trailing_zeros w64 word some l.fits in
           let i : ℕ = b - at * 64 in
-          let place : at * 64 + i ≡ b = omega arith in
+          let index : at * 64 + i ≡ b = omega arith in
           let less : i < trailing_zeros w64 word = omega arith in
-          ap wanted (sym place) ∙ sym (l.inside i (omega (arith, t.0, less)) (omega arith)) ∙ ap (λ x. x == 1) (t.2 i less)
+          ap wanted (sym index) ∙ sym (l.inside i (omega (arith, t.0, less)) (omega arith)) ∙ ap (λ x. x == 1) (t.2 i less)
     ]
 
 -- ---- from the last word to the first
@@ -104,7 +104,7 @@ quotient_one word j low high =
     double : (j : ℕ) → 2 ^ suc j ≡ 2 ^ j + 2 ^ j
     double j = omega arith
 
--- the place of the highest bit
+-- the index of the highest bit
 abbrev pub highest : ℕ → ℕ
 highest word = 63 - leading_zeros w64 word
 
@@ -113,11 +113,11 @@ pub highest_is : (word : ℕ) → 0 < word → word < 2 ^ 64
 highest_is word some fits =
     let t = leading_top 64 word some fits in
     let j : ℕ = t.0 in
-    let place : highest word ≡ j = omega (arith, t.1) in
+    let index : highest word ≡ j = omega (arith, t.1) in
     let one : word / 2 ^ j ≡ 1 = quotient_one word j t.2 t.3 in (
-      omega (arith, place, t.1),
-      ap (λ k. bit_at word k) place ∙ ap (λ n. n % 2) one,
-      λ i above. bit_at_above word (suc j) i t.3 (omega (arith, place, above)),
+      omega (arith, index, t.1),
+      ap (λ k. bit_at word k) index ∙ ap (λ n. n % 2) one,
+      λ i above. bit_at_above word (suc j) i t.3 (omega (arith, index, above)),
     )
 
 module _ (wanted : ℕ → Bool) (from to : ℕ) (order : from ≤ to) where
@@ -136,8 +136,8 @@ module _ (wanted : ℕ → Bool) (from to : ℕ) (order : from ≤ to) where
   none_from at word l none b after before = elim (cases_lt b (suc at * 64)) [
     | inl low ↦
         let i : ℕ = b - at * 64 in
-        let place : at * 64 + i ≡ b = omega arith in
-        ap wanted (sym place) ∙ sym (l.inside i (omega arith) (omega arith)) ∙ ap (λ w. bit_at w i == 1) none ∙ ap (λ x. x == 1) (bit_at-zero i)
+        let index : at * 64 + i ≡ b = omega arith in
+        ap wanted (sym index) ∙ sym (l.inside i (omega arith) (omega arith)) ∙ ap (λ w. bit_at w i == 1) none ∙ ap (λ x. x == 1) (bit_at-zero i)
     | inr high ↦ l.passed b high before
   ]
 
@@ -173,8 +173,8 @@ module _ (wanted : ℕ → Bool) (from to : ℕ) (order : from ≤ to) where
       | inl low ↦
           let t = highest_is word some l.fits in
           let i : ℕ = b - at * 64 in
-          let place : at * 64 + i ≡ b = omega arith in
-          ap wanted (sym place) ∙ sym (l.inside i (omega arith) (omega arith)) ∙ ap (λ x. x == 1) (t.2 i (omega arith))
+          let index : at * 64 + i ≡ b = omega arith in
+          ap wanted (sym index) ∙ sym (l.inside i (omega arith) (omega arith)) ∙ ap (λ x. x == 1) (t.2 i (omega arith))
       | inr high ↦ l.passed b high before
     ]
 
@@ -226,6 +226,6 @@ module _ (row other : List ℕ) (at word : ℕ) (fits : word < 2 ^ 64)
 
   pub none_fresh : word ≡ 0 → (b : ℕ) → b / 64 ≡ at → has other b ≡ true → has row b ≡ true
   none_fresh none b here set =
-      let place : at * 64 + b % 64 ≡ b = omega arith in
+      let index : at * 64 + b % 64 ≡ b = omega arith in
       let bit : (bit_at word (b % 64) == 1) ≡ false = ap (λ w. bit_at w (b % 64) == 1) none ∙ ap (λ x. x == 1) (bit_at-zero (b % 64)) in
-      fresh_false (has other b) (has row b) (ap (is_fresh row other) (sym place) ∙ sym (fresh_here (b % 64) (omega arith)) ∙ bit) set
+      fresh_false (has other b) (has row b) (ap (is_fresh row other) (sym index) ∙ sym (fresh_here (b % 64) (omega arith)) ∙ bit) set

@@ -43,9 +43,9 @@ unset_above row m b none after same =
     let x : ℕ = get_or row (m / 64) 0 in
     let s : ℕ = m % 64 in
     let d : ℕ = b % 64 - s in
-    let place : s + d ≡ b % 64 = omega arith in
+    let index : s + d ≡ b % 64 = omega arith in
     let bit : bit_at x (b % 64) ≡ 0 =
-    ap (λ i. bit_at x i) (sym place) ∙ ap (λ n. n % 2) (sym (shr-shr x s d)) ∙ ap (λ n. n / 2 ^ d % 2) none ∙ bit_at-zero d in
+    ap (λ i. bit_at x i) (sym index) ∙ ap (λ n. n % 2) (sym (shr-shr x s d)) ∙ ap (λ n. n / 2 ^ d % 2) none ∙ bit_at-zero d in
     ap (λ k. bit_at (get_or row k 0) (b % 64) == 1) same ∙ ap (λ n. n == 1) bit
 
 module _ (row : List ℕ) (fits : (k : ℕ) → get_or row k 0 < 2 ^ 64) (result : Bool) where

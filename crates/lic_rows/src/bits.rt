@@ -9,11 +9,11 @@ use crate::{or_into, range};
 use std::alloc::{AllocError, Global};
 use std::marker::Model;
 
-/// A row of bits: a list of flags, 64 in a word. A range of it is given by its first place and the one after its
+/// A row of bits: a list of flags, 64 in a word. A range of it is given by its first index and the one after its
 /// last, in bits. Only `new` takes memory.
 #[derive(Drop, Debug)]
 pub struct Bits {
-    // one word more than the whole words, so that each place up to the end has its word
+    // one word more than the whole words, so that each index up to the end has its word
     words: Vec<u64>,
     len: usize,
 }
@@ -138,7 +138,7 @@ impl Bits {
         grows
     }
 
-    /// Moves each bit of the range to the next place. The first one becomes as given, and the last one is lost.
+    /// Moves each bit of the range to the next index. The first one becomes as given, and the last one is lost.
     #[inline]
     pub fn move_up(&mut self, from: usize, to: usize, is_set: bool)
         requires order { from < to }

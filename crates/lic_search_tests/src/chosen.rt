@@ -5,7 +5,7 @@ ghost use Rattle.lic_set.specs.Rising.{IsRising};
 
 use std::alloc::{AllocError, Global};
 
-/// The numbers below a count at whose place a choice has a bit, in rising order.
+/// The numbers below a count at whose index a choice has a bit, in rising order.
 pub fn chosen_numbers(alloc: Global, choice: u64, count: usize) -> Result<Vec<usize>, AllocError>
     ensures { IfOk result (λ numbers. IsRising numbers.items count) }
 {

@@ -78,7 +78,7 @@ fn of_chosen(alloc: Global, all: &[Triple], choice: u64) -> Result<Vec<Triple>, 
     Ok(found)
 }
 
-// Whether a choice has a bit at the place of a number.
+// Whether a choice has a bit at the index of a number.
 fn is_chosen(choice: u64, number: usize) -> bool {
     number < 64 && (choice >> number) & 1 == 1
 }

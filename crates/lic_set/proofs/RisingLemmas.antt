@@ -9,11 +9,11 @@ use Rattle.std.proofs.Math.Logic.{⊎_elim}
 use Rattle.lic_set.specs.Rising.{IsRising}
 
 module _ (xs : List ℕ) (n : ℕ) (r : IsRising xs n) where
-  -- a number is not below its place
-  pub place-rising : (i : ℕ) → i < length xs → i ≤ get_or xs i 0
-  place-rising zero h = omega arith
-  place-rising (suc i) h =
-      let before = place-rising i (omega arith) in
+  -- a number is not below its index
+  pub index-rising : (i : ℕ) → i < length xs → i ≤ get_or xs i 0
+  index-rising zero h = omega arith
+  index-rising (suc i) h =
+      let before = index-rising i (omega arith) in
       let step : get_or xs i 0 < get_or xs (i + 1) 0 = r.order i (omega arith) in
       let next : i + 1 ≡ suc i = omega arith in
       subst (λ k. suc i ≤ get_or xs k 0) next (omega (arith, before, step))
@@ -24,7 +24,7 @@ module _ (xs : List ℕ) (n : ℕ) (r : IsRising xs n) where
       ⊎_elim
       (λ (some : 0 < length xs).
       let last : length xs - 1 < length xs = omega arith in
-      omega (arith, place-rising (length xs - 1) last, r.below (length xs - 1) last))
+      omega (arith, index-rising (length xs - 1) last, r.below (length xs - 1) last))
       (λ (none : length xs ≤ 0). omega arith)
       (cases_lt 0 (length xs))
 

@@ -55,7 +55,7 @@ pub struct Named {
     pub template: Template,
 }
 
-/// Templates, ordered by the bytes of their identifiers. A template's number is its place, from 0.
+/// Templates, ordered by the bytes of their identifiers. A template's number is its index, from 0.
 #[derive(Debug, Drop)]
 pub struct Set {
     named: Vec<Named>,
@@ -204,7 +204,7 @@ fn templates_of(alloc: Global, named: &[Named]) -> Result<Vec<&Template>, AllocE
     Ok(templates)
 }
 
-// The first place whose identifier is that of the place before.
+// The first index whose identifier is that of the index before.
 fn first_repeat(templates: &[(String, Template)]) -> Option<usize>
     ensures found { IfSome result (RepeatsAt templates.now) }
     ensures none { IfNone result

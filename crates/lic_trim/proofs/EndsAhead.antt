@@ -1,4 +1,4 @@
--- Where sequences of pieces end, seen from a place where one does.
+-- Where sequences of pieces end, seen from an index where one does.
 use Rattle.std.proofs.Common.{◌≡◌, ℕ, zero, suc, ◌+◌, ◌-◌, ◌/◌, ◌<◌, ◌≤◌, Bool, true, false, ◌&&◌, if◌then◌else◌, List, length, take, drop, get_or, refl, sym, ap, ◌∙◌, subst, arith}
 use Rattle.std.specs.Prelude.{slice_index, nat_le}
 use Rattle.std.specs.Char.{is_whitespace}
@@ -11,9 +11,9 @@ use Rattle.lic_trim.specs.Spaces.{AreSpaces}
 use Rattle.lic_trim.specs.Texts.{is_sequence, longest_front}
 use Rattle.lic_trim.specs.Walks.{Side, is_walked_piece}
 use Rattle.lic_trim.proofs.PieceLengths.{only_first, has_bit_half, next_without}
-use Rattle.lic_trim.proofs.SequencePlaces.{AreEnds, next_ends, start_ends, ends_next, blank_ends, all_ends, no_more_ends}
+use Rattle.lic_trim.proofs.SequenceIndices.{AreEnds, next_ends, start_ends, ends_next, blank_ends, all_ends, no_more_ends}
 
--- a sequence ends here, and bit d says whether one ends d places on
+-- a sequence ends here, and bit d says whether one ends d indices on
 pub record AreEndsFrom (p : List ℕ → Bool) (way : List ℕ) (at ends : ℕ) : Type 0 where
   pub are : AreEnds p way at ends at
   pub here : has_bit ends 0 ≡ true
@@ -65,7 +65,7 @@ one_space rules side way at from inside white closed =
     let first : is_whitespace (get_or (drop at way) 0 0) ≡ true = ap is_whitespace (get_or-drop at way 0 0 ∙ ap (slice_index way) start) ∙ white in
     from_here (is_walked_piece rules side) way (at + 1) 1 at (blank_ends rules side way at at from.are inside white (closed (drop at way) first)) refl
 
--- ---- on to the next place where one ends
+-- ---- on to the next index where one ends
 
 -- the same ends
 same_ends : (p : List ℕ → Bool) (way : List ℕ) (at ends new longest : ℕ) → AreEnds p way at ends longest → ((d : ℕ) → has_bit new d ≡ has_bit ends d)
@@ -80,12 +80,12 @@ same_ends p way at ends new longest are same = record {
   past = are.past;
 }
 
--- the ends so many places on, where none is before
+-- the ends so many indices on, where none is before
 skipped : (p : List ℕ → Bool) (way : List ℕ) (longest k at ends new : ℕ) → AreEnds p way at ends longest → ((d : ℕ) → d < k → has_bit ends d ≡ false)
     → at + k ≤ length way → ((d : ℕ) → has_bit new d ≡ has_bit ends (k + d)) → AreEnds p way (at + k) new longest
 skipped p way longest zero at ends new are none fits same =
-    let place : at ≡ at + 0 = omega arith in
-    subst (λ m. AreEnds p way m new longest) place
+    let index : at ≡ at + 0 = omega arith in
+    subst (λ m. AreEnds p way m new longest) index
     (same_ends p way at ends new longest are (λ d. let last : 0 + d ≡ d = omega arith in same d ∙ ap (has_bit ends) last))
 skipped p way longest (suc k) at ends new are none fits same =
     let off : has_bit ends 0 ≡ false = none 0 (omega arith) in
@@ -94,8 +94,8 @@ skipped p way longest (suc k) at ends new are none fits same =
     subst (AreEnds p way (at + 1) (ends / 2)) stays
     (ends_next p way at ends longest are (omega arith) (ends / 2)
     (λ d. next_without ends (nat_le (suc d) (length (drop at way)) && p (take (suc d) (drop at way))) d off)) in
-    let place : at + 1 + k ≡ at + suc k = omega arith in
-    subst (λ m. AreEnds p way m new longest) place
+    let index : at + 1 + k ≡ at + suc k = omega arith in
+    subst (λ m. AreEnds p way m new longest) index
     (skipped p way longest k (at + 1) (ends / 2) new one
     (λ d lt. has_bit_half ends d ∙ none (suc d) (omega arith))
     (omega arith)
@@ -116,9 +116,9 @@ module _ (p : List ℕ → Bool) (way : List ℕ) (at ends : ℕ) (from : AreEnd
       → AreEndsFrom p way (at + (1 + step)) rest
   next_here step rest here same none =
       let last : step + 0 ≡ step = omega arith in
-      let place : at + 1 + step ≡ at + (1 + step) = omega arith in
+      let index : at + 1 + step ≡ at + (1 + step) = omega arith in
       let fits = (later.sound step (ap (has_bit next) (sym last) ∙ sym (same 0) ∙ here)).0 in
-      subst (λ m. AreEndsFrom p way m rest) place
+      subst (λ m. AreEndsFrom p way m rest) index
       (from_here p way (at + 1 + step) rest at (skipped p way at step (at + 1) next rest later none fits same) here)
 
 -- ---- at the end of the way

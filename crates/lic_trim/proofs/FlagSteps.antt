@@ -47,7 +47,7 @@ front_push flags line n first b within front = record {
 pub greatest_more : (test : ℕ → Bool) (k : ℕ) → greatest test (k + 1) ≡ cond (test (k + 1)) (k + 1) (greatest test k)
 greatest_more test k = ap (greatest test) (add-one k) ∙ ap (λ n. cond (test n) n (greatest test k)) (sym (add-one k))
 
--- before the first place
+-- before the first index
 pub sequences_start : (p : List ℕ → Bool) (line : List ℕ) → AreSequences p (true ∷ []) line
 sequences_start p line = record {
   each = λ k lt. let first : 0 ≡ k = omega arith in

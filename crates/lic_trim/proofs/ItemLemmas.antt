@@ -176,9 +176,9 @@ pub item_after : (rules : LineRules) (line past : List ℕ) (end : ℕ) → end 
     → item_length rules (line ++ past) ≡ cond (rules.items && is_item_form (take end line) && lets (take end line) (drop (end + 1) line ++ past)) end 0
 item_after rules line past end is within =
     let text = line ++ past in
-    let place : position_or_len is_whitespace text ≡ end =
+    let index : position_or_len is_whitespace text ≡ end =
     prefix_append (λ c. not (is_whitespace c)) line past (subst (λ n. n < length line) is within) ∙ sym is in
-    let form : before_first is_whitespace text ≡ take end line = ap (λ n. take n text) place ∙ take-append-le end line past (omega arith) in
+    let form : before_first is_whitespace text ≡ take end line = ap (λ n. take n text) index ∙ take-append-le end line past (omega arith) in
     let long : length (take end line) ≡ end = length-take-le end line (omega arith) in
     let c = get_or line end 0 in
     let white : is_whitespace c ≡ true =

@@ -37,11 +37,11 @@ module _ (flags : List Bool) (line : List ℕ) (end before : ℕ) (last : end �
       let parts = space_parts _ e.piece in
       let below : e.from < end = e.below in
       let long : 1 ≡ end - e.from = sym (ap length parts.1) ∙ length_part flags line end e.from within in
-      let place : e.from ≡ before = omega arith in
+      let index : e.from ≡ before = omega arith in
       let c : parts.0 ≡ slice_index line before =
-      sym (ap (λ l. get_or l 0 0) parts.1) ∙ ap (λ j. get_or (slice_range line j end) 0 0) place
+      sym (ap (λ l. get_or l 0 0) parts.1) ∙ ap (λ j. get_or (slice_range line j end) 0 0) index
       ∙ ap (λ l. get_or l 0 0) one in
-      and_from _ _ (subst (λ i. slice_index_or flags i false ≡ true) place e.flagged) (subst (λ d. is_whitespace d ≡ true) c parts.2))
+      and_from _ _ (subst (λ i. slice_index_or flags i false ≡ true) index e.flagged) (subst (λ d. is_whitespace d ≡ true) c parts.2))
       (λ h.
       let parts = and_parts (slice_index_or flags before false) (is_whitespace (slice_index line before)) h in
       ends-from flags line end is_space
@@ -81,11 +81,11 @@ module _ (flags : List Bool) (line : List ℕ) (end before : ℕ) (last : end �
       let parts = and_parts (is_whitespace (slice_index line before)) (bytes_eq t (slice_range line e.from before)) piece in
       let text : t ≡ slice_range line e.from before = (bytes_eq-Decides t _).0 parts.1 in
       let long : length t ≡ before - e.from = ap length text ∙ length_part flags line before e.from (omega arith) in
-      let place : e.from ≡ before - length t = omega arith in (
+      let index : e.from ≡ before - length t = omega arith in (
         parts.0,
         omega arith,
-        subst (λ i. slice_index_or flags i false ≡ true) place e.flagged,
-        ap (λ i. slice_range line i before) (sym place) ∙ sym text,
+        subst (λ i. slice_index_or flags i false ≡ true) index e.flagged,
+        ap (λ i. slice_range line i before) (sym index) ∙ sym text,
       )
 
   pub separator_ends : (first : ℕ) → IsStreakFront flags line end first
@@ -122,7 +122,7 @@ module _ (flags : List Bool) (line : List ℕ) (end before : ℕ) (last : end �
             ∙ front.same (first + i) (omega arith) (omega arith));
       }))
 
-  -- what the test of the one place says
+  -- what the test of the one index says
   pub spaced_none : (t : List ℕ)
       → (is_whitespace (slice_index line before) ≡ true → length t ≤ before
       → slice_index_or flags (before - length t) false ≡ true → ⊥)

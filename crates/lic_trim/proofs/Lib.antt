@@ -14,7 +14,7 @@ pub mod PlainEdges
 pub mod BeginningTexts
 pub mod PieceLengths
 pub mod SeparatorLengths
-pub mod SequencePlaces
+pub mod SequenceIndices
 pub mod EndsAhead
 pub mod LongSeparators
 pub mod ItemLemmas

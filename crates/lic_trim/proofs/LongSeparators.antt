@@ -1,4 +1,4 @@
--- In a long separator sequences end at all places from the third on, and no other piece leads out of it but from its last places.
+-- In a long separator sequences end at all indices from the third on, and no other piece leads out of it but from its last indices.
 use Rattle.std.proofs.Common.{◌≡◌, ℕ, zero, suc, ◌+◌, ◌-◌, ◌<◌, ◌≤◌, Bool, true, ◌&&◌, ◌||◌, ◌==◌, List, [], ◌∷◌, length, take, get_or, reverse, inl, inr, refl, sym, ap, ◌∙◌, arith}
 use Rattle.std.specs.Prelude.{slice_range, slice_index, slice_index_or, bytes_eq}
 use Rattle.std.specs.List.{list_any}
@@ -17,7 +17,7 @@ use Rattle.lic_trim.proofs.KindEnds.{space_parts}
 use Rattle.lic_trim.proofs.PieceLengths.{only_first}
 use Rattle.lic_trim.proofs.PieceEnds.{length_part, slice_at, separator_parts, separator_from}
 use Rattle.lic_trim.proofs.SequenceLemmas.{sequence_continues}
-use Rattle.lic_trim.proofs.SequencePlaces.{AreEnds}
+use Rattle.lic_trim.proofs.SequenceIndices.{AreEnds}
 use Rattle.lic_trim.proofs.SideEnds.{walked_piece}
 use Rattle.lic_trim.proofs.Stops.{any_some, ends_in-length}
 use Rattle.lic_trim.proofs.Walking.{length-walked}
@@ -57,7 +57,7 @@ repeats_last (c ∷ rest) x h =
     let many : length (reverse x) ≡ length x = length-reverse x in
     let long : length rest < length (reverse x) = known.0 in
     let is = λ (i : ℕ) (low : suc (length rest) ≤ i + 1) (high : i < length x).
-    let place : length (reverse x) - 1 - (length x - 1 - i) ≡ i = omega (arith, many) in
+    let index : length (reverse x) - 1 - (length x - 1 - i) ≡ i = omega (arith, many) in
     sym (ap (λ l. get_or l i 0) (reverse-reverse x)) ∙ at i low high in
     (omega arith, omega (arith, many), λ i k low high low' high'. is i low high ∙ sym (is k low' high'))
   where
@@ -74,7 +74,7 @@ module _ (rules : LineRules) (side : Side) (way : List ℕ) (at far all : ℕ) (
   abbrev end : ℕ
   end = at + is.count
 
-  -- from the third place on the part from here is a separator
+  -- from the third index on the part from here is a separator
   is_separator_to : (m : ℕ) → at + 3 ≤ m → m ≤ end → p (slice_range way at m) ≡ true
   is_separator_to m low high =
       let x = slice_range way at m in
@@ -87,7 +87,7 @@ module _ (rules : LineRules) (side : Side) (way : List ℕ) (at far all : ℕ) (
       (or_left (is_space x || (rules.separators && is_separator x)) _
       (or_right (is_space x) _ (and_from rules.separators (is_separator x) is.streak.separators marks)))
 
-  -- a piece that begins before the last places stays in the separator
+  -- a piece that begins before the last indices stays in the separator
   module _ (j m : ℕ) (low : at ≤ j) (high : j < far) (over : end < m) (within : m ≤ length way) where
     abbrev x : List ℕ
     x = slice_range way j m
@@ -100,13 +100,13 @@ module _ (rules : LineRules) (side : Side) (way : List ℕ) (at far all : ℕ) (
 
     first : (i : ℕ) → j + i < end → get_or x i 0 ≡ slice_index way at
     first i lt =
-        let place : at + (j + i - at) ≡ j + i = omega arith in
-        slice_at way j m i (omega arith) ∙ ap (slice_index way) (sym place) ∙ is.streak.same (j + i - at) (omega arith)
+        let index : at + (j + i - at) ≡ j + i = omega arith in
+        slice_at way j m i (omega arith) ∙ ap (slice_index way) (sym index) ∙ is.streak.same (j + i - at) (omega arith)
 
     other : get_or x k 0 ≡ slice_index way at → ⊥
     other same =
-        let place : j + k ≡ end = omega (arith, is.end) in
-        is.streak.stop (omega arith) (ap (slice_index way) (sym place) ∙ sym (slice_at way j m k (omega (arith, is.end))) ∙ same)
+        let index : j + k ≡ end = omega (arith, is.end) in
+        is.streak.stop (omega arith) (ap (slice_index way) (sym index) ∙ sym (slice_at way j m k (omega (arith, is.end))) ∙ same)
 
     never : p x ≡ true → ⊥
     never h =
@@ -173,6 +173,6 @@ module _ (rules : LineRules) (side : Side) (way : List ℕ) (at far all : ℕ) (
         past = omega arith;
       }
 
-  -- one ends at that place
+  -- one ends at that index
   pub all_here : has_bit all 0 ≡ true
   all_here = ap (λ n. has_bit n 0) is.bits ∙ ap (λ n. n == 1) (bit_at_ones (is.reach + 2) 0 (omega arith))

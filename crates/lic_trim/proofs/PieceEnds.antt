@@ -27,7 +27,7 @@ any_below-from test (suc n) j lt h =
     (λ last. let e : j ≡ n = omega arith in or_left (test n) _ (subst (λ i. test i ≡ true) e h))
     (cases_lt j n)
 
--- a piece that ends here, after a flagged place
+-- a piece that ends here, after a flagged index
 pub record Ends (p : List ℕ → Bool) (flags : List Bool) (line : List ℕ) (end : ℕ) : Type 0 where
   pub from : ℕ
   pub below : from < end
@@ -40,10 +40,10 @@ pub slice_snoc : (line : List ℕ) (j before : ℕ) → j ≤ before → before 
 slice_snoc line j before h within =
     let len : length (drop j line) ≡ length line - j = length-drop j line in
     let more : before + 1 - j ≡ (before - j) + 1 = omega arith in
-    let place : j + (before - j) ≡ before = omega arith in
+    let index : j + (before - j) ≡ before = omega arith in
     ap (λ n. take n (drop j line)) more
     ∙ take_more (drop j line) (before - j) 0 (omega arith)
-    ∙ ap (λ c. take (before - j) (drop j line) ++ c ∷ []) (get_or-drop j line (before - j) 0 ∙ ap (λ i. get_or line i 0) place)
+    ∙ ap (λ c. take (before - j) (drop j line) ++ c ∷ []) (get_or-drop j line (before - j) 0 ∙ ap (λ i. get_or line i 0) index)
 
 -- a part of a line, element by element
 pub slice_at : (line : List ℕ) (j end i : ℕ) → j + i < end → get_or (slice_range line j end) i 0 ≡ slice_index line (j + i)
@@ -124,7 +124,7 @@ module _ (flags : List Bool) (line : List ℕ) (end : ℕ) where
   pub length_part : (from : ℕ) → end ≤ length line → length (slice_range line from end) ≡ end - from
   length_part from within = length-take-le (end - from) (drop from line) (omega (arith, length-drop from line))
 
-  -- a text ends here where it comes before this place, after a flagged one
+  -- a text ends here where it comes before this index, after a flagged one
   pub text_ends : (t : List ℕ) → 0 < length t → length t ≤ end → slice_index_or flags (end - length t) false ≡ true
       → slice_range line (end - length t) end ≡ t → ends_piece (bytes_eq t) flags line end ≡ true
   text_ends t some fits flag text =
@@ -144,14 +144,14 @@ module _ (flags : List Bool) (line : List ℕ) (end : ℕ) where
       let text : t ≡ slice_range line e.from end = (bytes_eq-Decides t _).0 e.piece in
       let below : e.from < end = e.below in
       let long : length t ≡ end - e.from = ap length text ∙ length_part e.from within in
-      let place : e.from ≡ end - length t = omega arith in (
+      let index : e.from ≡ end - length t = omega arith in (
         omega arith,
         omega arith,
-        subst (λ i. slice_index_or flags i false ≡ true) place e.flagged,
-        ap (λ i. slice_range line i end) (sym place) ∙ sym text,
+        subst (λ i. slice_index_or flags i false ≡ true) index e.flagged,
+        ap (λ i. slice_range line i end) (sym index) ∙ sym text,
       )
 
-  -- what a test of the one place says
+  -- what a test of the one index says
   pub text_ends-none : (t : List ℕ) → end ≤ length line → (0 < length t → length t ≤ end → ⊥) → false ≡ ends_piece (bytes_eq t) flags line end
   text_ends-none t within never = same_truth _ _ (λ h. absurd (false≢true h)) (λ h. let e = text_ends-only t within h in absurd (never e.0 e.1))
 

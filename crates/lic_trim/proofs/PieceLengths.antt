@@ -339,7 +339,7 @@ pub only_first : (n : ℕ) → has_bit 1 n ≡ true → n ≡ 0
 only_first zero h = refl
 only_first (suc n) h = absurd (false≢true (sym (ap (λ b. b == 1) (bit_at_above 1 1 (suc n) (omega arith) (omega arith))) ∙ h))
 
--- the bits one place on
+-- the bits one index on
 pub next_without : (mask : ℕ) (more : Bool) (d : ℕ) → has_bit mask 0 ≡ false → has_bit (mask / 2) d ≡ (has_bit mask (suc d) || (has_bit mask 0 && more))
 next_without mask more d off =
     has_bit_half mask d ∙ sym (ap (λ b. has_bit mask (suc d) || (b && more)) off ∙ or-false (has_bit mask (suc d)))

@@ -79,18 +79,18 @@ module _ (way : List ℕ) where
       ]
     ]
 
--- the same facts at a place of a line
-module _ (line : List ℕ) (place : ℕ) where
-  pub first_at : get_or (drop place line) 0 0 ≡ get_or line place 0
-  first_at = let start : place + 0 ≡ place = omega arith in get_or-drop place line 0 0 ∙ ap (λ k. get_or line k 0) start
+-- the same facts at an index of a line
+module _ (line : List ℕ) (index : ℕ) where
+  pub first_at : get_or (drop index line) 0 0 ≡ get_or line index 0
+  first_at = let start : index + 0 ≡ index = omega arith in get_or-drop index line 0 0 ∙ ap (λ k. get_or line k 0) start
 
-  pub same_at : (streak : ℕ) → ((i : ℕ) → i < streak → get_or line (place + i) 0 ≡ get_or line place 0)
-      → (i : ℕ) → i < streak → get_or (drop place line) i 0 ≡ get_or (drop place line) 0 0
-  same_at streak same i lt = get_or-drop place line i 0 ∙ same i lt ∙ sym first_at
+  pub same_at : (streak : ℕ) → ((i : ℕ) → i < streak → get_or line (index + i) 0 ≡ get_or line index 0)
+      → (i : ℕ) → i < streak → get_or (drop index line) i 0 ≡ get_or (drop index line) 0 0
+  same_at streak same i lt = get_or-drop index line i 0 ∙ same i lt ∙ sym first_at
 
-  pub stop_at : (streak : ℕ) → (place + streak < length line → get_or line (place + streak) 0 ≢ get_or line place 0)
-      → streak < length (drop place line) → get_or (drop place line) streak 0 ≢ get_or (drop place line) 0 0
-  stop_at streak stop lt e = stop (omega (arith, length-drop place line)) (sym (get_or-drop place line streak 0) ∙ e ∙ first_at)
+  pub stop_at : (streak : ℕ) → (index + streak < length line → get_or line (index + streak) 0 ≢ get_or line index 0)
+      → streak < length (drop index line) → get_or (drop index line) streak 0 ≢ get_or (drop index line) 0 0
+  stop_at streak stop lt e = stop (omega (arith, length-drop index line)) (sym (get_or-drop index line streak 0) ∙ e ∙ first_at)
 
 -- how a mask of the lengths from 3 to that of a streak is made
 pub length_of_streak : (streak : ℕ) → 3 ≤ streak → streak ≤ 62 → (8 ≤ 1 * 2 ^ (streak + 1) % 2 ^ 64) × (1 * 2 ^ (streak + 1) % 2 ^ 64 ≡ 2 ^ (streak + 1))

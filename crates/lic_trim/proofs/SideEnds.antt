@@ -1,4 +1,4 @@
--- Which kind of piece ends at a place of the way.
+-- Which kind of piece ends at an index of the way.
 use Rattle.std.proofs.Common.{◌≡◌, ℕ, ◌+◌, ◌-◌, ◌<◌, ◌≤◌, Bool, true, false, ◌&&◌, ◌||◌, ◌==◌, List, [], ◌∷◌, ◌++◌, length, map, get_or, take, drop, reverse, ◌⊎◌, inl, inr, refl, sym, ap, ap₂, ◌∙◌, subst, ⊎_elim, arith}
 use Rattle.std.specs.Prelude.{replicate, slice_range, slice_index, slice_index_or, bytes_eq}
 use Rattle.std.specs.List.{list_any}
@@ -184,7 +184,7 @@ module _ (flags : List Bool) (line : List ℕ) (end : ℕ) where
       (ends_piece-any (λ t x. ends_in is_whitespace (bytes_eq (walked side t)) x) (side_spaced rules side))
       (ends_piece-any (λ t x. repeats t (reverse x)) (side_repeated rules side)))
 
-  -- one more flag at or after this place changes nothing
+  -- one more flag at or after this index changes nothing
   pub ends_piece-push : (p : List ℕ → Bool) (b : Bool) → end ≤ length flags → ends_piece p (flags ++ b ∷ []) line end ≡ ends_piece p flags line end
   ends_piece-push p b within = same_truth _ _
       (λ h.
@@ -256,11 +256,11 @@ module _ (flags : List Bool) (line : List ℕ) (k c : ℕ) (rest : List ℕ) (wi
             (λ here.
             let text : rest ≡ part = (bytes_eq-Decides rest part).0 here in
             let long : length rest ≡ k - e.from = ap length text ∙ length-reverse (slice_range line e.from k) ∙ length_part flags line k e.from (omega arith) in
-            let place : e.from ≡ k - length rest = omega arith in
+            let index : e.from ≡ k - length rest = omega arith in
             inl (record {
               fits = omega arith;
-              flagged = subst (λ i. slice_index_or flags i false ≡ true) place e.flagged;
-              text = text ∙ ap (λ i. reverse (slice_range line i k)) place;
+              flagged = subst (λ i. slice_index_or flags i false ≡ true) index e.flagged;
+              text = text ∙ ap (λ i. reverse (slice_range line i k)) index;
             }))
             (λ before.
             ⊎_elim
@@ -352,7 +352,7 @@ module _ (flags : List Bool) (line : List ℕ) (k : ℕ) (within : k < length li
         (record { fits = fits; flagged = flagged; text = (bytes_eq-Decides _ _).0 (sym value ∙ h) }))
         (λ h. value ∙ (bytes_eq-Decides _ _).1 (only_rest before h).text)
 
--- what is known of the texts before the first place
+-- what is known of the texts before the first index
 pub repeats_start : (flags : List Bool) (line : List ℕ) (ts : List (List ℕ)) → replicate (length ts) false ≡ map (repeat_ends flags line 0) ts
 repeats_start flags line [] = refl
 repeats_start flags line (t ∷ ts) = ap₂ (λ b l. b ∷ l) (sym (repeat_ends-start flags line t)) (repeats_start flags line ts)

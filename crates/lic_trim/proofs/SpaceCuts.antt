@@ -42,9 +42,9 @@ module _ (rules : LineRules) (line rest : List ℕ) (n m : ℕ) (is_rest : rest 
   past : (i : ℕ) → length line - m ≤ i → i < length line → get_or (reverse rest) (length line - 1 - i) 0 ≡ slice_index line i
   past i low high =
       let k = length line - 1 - i in
-      let place : length rest - 1 - k ≡ i - n = omega (arith, size) in
+      let index : length rest - 1 - k ≡ i - n = omega (arith, size) in
       let whole : n + (i - n) ≡ i = omega (arith, size, end) in
-      get_or-reverse rest k 0 (omega (arith, size, end)) ∙ ap (λ j. get_or rest j 0) place ∙ ap (λ l. get_or l (i - n) 0) is_rest
+      get_or-reverse rest k 0 (omega (arith, size, end)) ∙ ap (λ j. get_or rest j 0) index ∙ ap (λ l. get_or l (i - n) 0) is_rest
       ∙ get_or-drop n line (i - n) 0 ∙ ap (slice_index line) whole
 
   pub takes_spaces : ((i : ℕ) → i < n → is_whitespace (slice_index (walked Front line) i) ≡ true)
@@ -64,9 +64,9 @@ white_end line left n count is_left spaces i low high =
     let many : length (walked End left) ≡ length left = length-reverse left in
     let k = length line - 1 - i in
     let fits : k < length left = omega (arith, many, spaces.within) in
-    let place : length left - 1 - k ≡ i - n = omega (arith, size) in
+    let index : length left - 1 - k ≡ i - n = omega (arith, size) in
     let whole : n + (i - n) ≡ i = omega (arith, size) in
     let past : get_or (reverse left) k 0 ≡ slice_index line i =
-    get_or-reverse left k 0 fits ∙ ap (λ j. get_or left j 0) place ∙ ap (λ l. get_or l (i - n) 0) is_left
+    get_or-reverse left k 0 fits ∙ ap (λ j. get_or left j 0) index ∙ ap (λ l. get_or l (i - n) 0) is_left
     ∙ get_or-drop n line (i - n) 0 ∙ ap (slice_index line) whole in
     ap is_whitespace (sym past) ∙ spaces.all k (omega arith)

@@ -43,7 +43,7 @@ ends_in-length last t text h = at (reverse text) refl h
         let text_is : t ≡ reverse rest = (bytes_eq-Decides t (reverse rest)).0 (and_parts (last c) (bytes_eq t (reverse rest)) e).1 in
         omega (arith, ap length same, length-reverse text, ap length text_is, length-reverse rest)
 
--- no separator goes on beyond a place where its streak begins at no flagged place, or is of no mark
+-- no separator goes on beyond an index where its streak begins at no flagged index, or is of no mark
 pub breaks_at : (flags : List Bool) (line : List ℕ) (k first : ℕ) → IsStreakFront flags line (k + 1) first
     → (nat_le first k && is_mark_kind (kind_of (slice_index line k))) ≡ false
     → IsStreakFront flags line (k + 1) (k + 1) ⊎ (is_mark_kind (kind_of (slice_index line (k + 1 - 1))) ≡ false)
@@ -63,7 +63,7 @@ module _ (rules : LineRules) (side : Side) (flags : List Bool) (line : List ℕ)
   abbrev pub p : List ℕ → Bool
   p = is_walked_piece rules side
 
-  -- a longer repetition is a piece one place before
+  -- a longer repetition is a piece one index before
   repeated_before : (m j : ℕ) (t : List ℕ) → end ≤ m + 1 → m + 1 ≤ length line → j ≤ longest → length t ≤ reach
       → repeats t (reverse (slice_range line j (m + 1))) ≡ true → repeats t (reverse (slice_range line j m)) ≡ true
   repeated_before m j [] past within low fits h = absurd (false≢true h)
@@ -77,7 +77,7 @@ module _ (rules : LineRules) (side : Side) (flags : List Bool) (line : List ℕ)
       (λ before. before)
       (or_cases (bytes_eq rest part) (repeats (c ∷ rest) part) more.1)
 
-  -- a piece from a sequence to a place beyond can only be a repetition
+  -- a piece from a sequence to an index beyond can only be a repetition
   piece_before : (m j : ℕ) → end ≤ m + 1 → m + 1 ≤ length line → j ≤ longest → slice_index_or flags j false ≡ true
       → p (slice_range line j (m + 1)) ≡ true → p (slice_range line j m) ≡ true
   piece_before m j past within low flag h =

@@ -31,13 +31,13 @@ pub reverse-range : (text : List ℕ) (from to : ℕ) → from ≤ to → to ≤
 reverse-range text from to order within =
     let n = length text in
     let size : n - from - (n - to) ≡ to - from = omega arith in
-    let place : n - to + (to - from) ≡ n - from = omega arith in
+    let index : n - to + (to - from) ≡ n - from = omega arith in
     let front = take (n - from) text in
     let long : length front ≡ n - from = length-take-le (n - from) text (omega arith) in
     let less : length front - (to - from) ≡ n - to = omega arith in
     -- the part is the end of a front
     let part : slice_range text (n - to) (n - from) ≡ drop (n - to) front =
-    ap (λ m. take m (drop (n - to) text)) size ∙ sym (drop-take (n - to) (to - from) text) ∙ ap (λ m. drop (n - to) (take m text)) place in
+    ap (λ m. take m (drop (n - to) text)) size ∙ sym (drop-take (n - to) (to - from) text) ∙ ap (λ m. drop (n - to) (take m text)) index in
     ap reverse (part ∙ ap (λ m. drop m front) (sym less))
     ∙ sym (take-reverse (to - from) front (omega arith))
     ∙ ap (take (to - from)) (sym (drop-reverse from text (omega arith)))

@@ -13,8 +13,8 @@ pub record IsLongStreak (rules : LineRules) (way : List ℕ) (at count : ℕ) : 
   pub same : (i : ℕ) → i < count → slice_index way (at + i) ≡ slice_index way at
   pub stop : at + count < length way → slice_index way (at + count) ≢ slice_index way at
 
--- A place three further or more on the streak that is here, which ends one place further from there than any text reaches; bit d is
--- set exactly if the place d further is not beyond that end.
+-- An index three further or more on the streak that is here, which ends one index further from there than any text reaches; bit d is
+-- set exactly if the index d further is not beyond that end.
 pub record IsLeap (rules : LineRules) (side : Side) (way : List ℕ) (at far ends : ℕ) : Type 0 where
   pub reach : ℕ
   pub short : AreShort rules side reach

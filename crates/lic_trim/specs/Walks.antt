@@ -61,7 +61,7 @@ abbrev pub any_below : (ℕ → Bool) → ℕ → Bool
 any_below test zero = false
 any_below test (suc n) = test n || any_below test n
 
--- whether a piece ends here that begins at one of the flagged places
+-- whether a piece ends here that begins at one of the flagged indices
 abbrev pub ends_piece : (List ℕ → Bool) → List Bool → List ℕ → ℕ → Bool
 ends_piece is_piece flags line end =
     any_below (λ j. slice_index_or flags j false && is_piece (slice_range line j end)) end
@@ -70,7 +70,7 @@ ends_piece is_piece flags line end =
 pub record AreSequences (is_piece : List ℕ → Bool) (flags : List Bool) (line : List ℕ) : Type 0 where
   pub each : (k : ℕ) → k < length flags → slice_index_or flags k false ≡ is_sequence is_piece (take k line)
 
--- from first on all characters before end are one; no flagged place before it has that, and it is flagged itself
+-- from first on all characters before end are one; no flagged index before it has that, and it is flagged itself
 pub record IsStreakFront (flags : List Bool) (line : List ℕ) (end first : ℕ) : Type 0 where
   pub within : first ≤ end
   pub same : (i : ℕ) → first ≤ i → i < end → slice_index line i ≡ slice_index line (end - 1)
@@ -78,10 +78,10 @@ pub record IsStreakFront (flags : List Bool) (line : List ℕ) (end first : ℕ)
   pub least : (j : ℕ) → j < first → j < end → slice_index_or flags j false ≡ true
       → (i : ℕ) × (j ≤ i) × (i < end) × (slice_index line i ≢ slice_index line (end - 1))
 
--- whether this text and a white space character end here, after one of the flagged places
+-- whether this text and a white space character end here, after one of the flagged indices
 unfoldable pub spaced_text_ends : List Bool → List ℕ → ℕ → List ℕ → Bool
 spaced_text_ends flags line end text = ends_piece (ends_in is_whitespace (bytes_eq text)) flags line end
 
--- whether this text, met from its end on, its first character once or more, ends here after one of the flagged places
+-- whether this text, met from its end on, its first character once or more, ends here after one of the flagged indices
 unfoldable pub repeat_ends : List Bool → List ℕ → ℕ → List ℕ → Bool
 repeat_ends flags line end text = ends_piece (λ part. repeats text (reverse part)) flags line end

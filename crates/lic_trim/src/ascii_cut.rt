@@ -9,36 +9,36 @@ ghost use Rattle.lic_trim.specs.Texts.{is_sequence, longest_front};
 ghost use Rattle.lic_trim.specs.Spaces.{AreSpaces, HasSpaces, TakesSpaces};
 ghost use Rattle.lic_trim.specs.Walks.{walked, is_walked_piece};
 
-use crate::ascii_sequences::sequence_by_places;
+use crate::ascii_sequences::sequence_by_indices;
 use crate::cut::LineCut;
 use crate::item::{is_bullet_sign, is_roman_digit, item_length};
 use crate::sequences::longest_sequence;
 use crate::side::Side;
-use crate::source::{SourceChar, place};
+use crate::source::{SourceChar, put_source};
 use crate::space_sequences::begun_texts;
 use lic_kind::{Kind, Rules, kind_of};
 use std::alloc::{AllocError, Global};
 
-/// The byte at this place of the way.
+/// The byte at this index of the way.
 #[inline(always)]
-pub(crate) fn byte_at(line: &[u8], side: Side, place: usize) -> u8
-    requires { place < length line.now }
-    ensures { result ≡ slice_index (walked side line.now) place }
+pub(crate) fn byte_at(line: &[u8], side: Side, index: usize) -> u8
+    requires { index < length line.now }
+    ensures { result ≡ slice_index (walked side line.now) index }
 {
     match side {
-        Side::Front => line[place],
-        Side::End => line[line.len() - 1 - place],
+        Side::Front => line[index],
+        Side::End => line[line.len() - 1 - index],
     }
 }
 
-/// The byte after this place of the way, or a blank where there is none.
+/// The byte after this index of the way, or a blank where there is none.
 #[inline(always)]
-pub(crate) fn byte_after(line: &[u8], side: Side, place: usize) -> u8
-    requires { place < length line.now }
-    ensures { place + 1 < length line.now → result ≡ slice_index (walked side line.now) (place + 1) }
+pub(crate) fn byte_after(line: &[u8], side: Side, index: usize) -> u8
+    requires { index < length line.now }
+    ensures { index + 1 < length line.now → result ≡ slice_index (walked side line.now) (index + 1) }
 {
-    if line.len() - place > 1 {
-        byte_at(line, side, place + 1)
+    if line.len() - index > 1 {
+        byte_at(line, side, index + 1)
     } else {
         b' '
     }
@@ -64,15 +64,15 @@ fn spaces(side: Side, line: &[u8]) -> usize
     count
 }
 
-/// Which texts of a side may be at this place of the way: text i has bit i, and one of another kind another bit. Nothing is said where
+/// Which texts of a side may be at this index of the way: text i has bit i, and one of another kind another bit. Nothing is said where
 /// more may be than a mask has bits for.
 #[inline(always)]
-pub(crate) fn begun_at(rules: &Rules, side: Side, line: &[u8], place: usize) -> Option<u64>
-    requires { place < length line.now }
-    ensures { IfSome result (λ mask. HasBegun (rules_of rules.now) side (drop place (walked side line.now)) mask) }
+pub(crate) fn begun_at(rules: &Rules, side: Side, line: &[u8], index: usize) -> Option<u64>
+    requires { index < length line.now }
+    ensures { IfSome result (λ mask. HasBegun (rules_of rules.now) side (drop index (walked side line.now)) mask) }
 {
-    let first = byte_at(line, side, place) as char;
-    let second = byte_after(line, side, place) as char;
+    let first = byte_at(line, side, index) as char;
+    let second = byte_after(line, side, index) as char;
     begun_texts(rules, side, first, second)
 }
 
@@ -96,15 +96,15 @@ fn is_alone(rules: &Rules, side: Side, line: &[u8], spaces: usize) -> bool
     }
 }
 
-/// The place of the first white space, or how many bytes there are.
+/// The index of the first white space, or how many bytes there are.
 #[inline(always)]
 fn first_space(line: &[u8]) -> usize
     ensures within { result ≤ length line.now }
-    ensures place { result ≡ position_or_len is_whitespace line.now }
+    ensures index { result ≡ position_or_len is_whitespace line.now }
 {
-    for (place, byte) in line.iter().enumerate() {
+    for (index, byte) in line.iter().enumerate() {
         if is_white(*byte) {
-            return place;
+            return index;
         }
     }
     line.len()
@@ -206,10 +206,10 @@ fn edge_of_ascii(
             length: spaces,
         });
     }
-    if let Some(length) = sequence_by_places(rules, side, line, spaces) {
+    if let Some(length) = sequence_by_indices(rules, side, line, spaces) {
         return Ok(Edge { spaces, length });
     }
-    place(characters, 0, line)?;
+    put_source(characters, 0, line)?;
     let length = longest_sequence(alloc, rules, side, characters)?;
     Ok(Edge { spaces, length })
 }
@@ -230,7 +230,7 @@ fn item_of_ascii(
     if has_no_item(line) {
         return Ok(0);
     }
-    place(characters, 0, line)?;
+    put_source(characters, 0, line)?;
     Ok(item_length(rules, characters, None))
 }
 

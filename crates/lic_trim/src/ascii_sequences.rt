@@ -1,4 +1,4 @@
-//! The longest sequence of pieces at a side of a line of ASCII, from one place where a sequence ends to the next.
+//! The longest sequence of pieces at a side of a line of ASCII, from one index where a sequence ends to the next.
 ghost use Rattle.std.specs.Prelude.{◌≡◌, ◌≢◌, ◌+◌, ◌-◌, ◌^◌, ◌<◌, ◌≤◌, ◌&&◌, ◌||◌, ◌==◌, ℕ, suc, true, false, if◌then◌else◌, [], IfSome, IsTrue, List};
 ghost use Rattle.std.specs.Prelude.{nat_le, nat_lt, length, take, drop, reverse, slice_index, slice_index_or};
 ghost use Rattle.std.specs.Char.{is_whitespace};
@@ -22,7 +22,7 @@ use lic_kind::{RuleKind, Rules, Texts};
 /// The longest text whose length is given by a bit, and as many texts as are looked for by bits.
 const LONGEST: usize = 62;
 
-/// The longest separator. A longer one is walked over once, and not from each of its places.
+/// The longest separator. A longer one is walked over once, and not from each of its indices.
 const LONGEST_SEPARATOR: usize = 16;
 
 /// The shortest separator.
@@ -36,14 +36,14 @@ fn space_length(byte: u8) -> u64
     if is_white(byte) { 2 } else { 0 }
 }
 
-/// Adds bit n where this text of n characters comes after this place of the way. Nothing is said where it is very long.
+/// Adds bit n where this text of n characters comes after this index of the way. Nothing is said where it is very long.
 #[inline(always)]
-fn with_text(mask: u64, side: Side, text: &[char], line: &[u8], place: usize) -> Option<u64>
-    requires { place ≤ length line.now }
+fn with_text(mask: u64, side: Side, text: &[char], line: &[u8], index: usize) -> Option<u64>
+    requires { index ≤ length line.now }
     ensures { IfSome result (λ new. (n : ℕ) → has_bit new n
-        ≡ (has_bit mask n || begins_with_length n (drop place (walked side line.now)) (walked side text.now))) }
+        ≡ (has_bit mask n || begins_with_length n (drop index (walked side line.now)) (walked side text.now))) }
 {
-    if !occurs(side, text, line, place) {
+    if !occurs(side, text, line, index) {
         return Some(mask);
     }
     if text.len() > LONGEST {
@@ -52,7 +52,7 @@ fn with_text(mask: u64, side: Side, text: &[char], line: &[u8], place: usize) ->
     Some(mask | 1 << text.len())
 }
 
-/// Adds bit n where the text of this number, if there is one, has n characters and comes after this place of the way.
+/// Adds bit n where the text of this number, if there is one, has n characters and comes after this index of the way.
 #[inline(always)]
 fn with_number(
     mask: u64,
@@ -60,108 +60,108 @@ fn with_number(
     texts: &Texts,
     i: usize,
     line: &[u8],
-    place: usize,
+    index: usize,
 ) -> Option<u64>
-    requires { place ≤ length line.now }
+    requires { index ≤ length line.now }
     ensures { IfSome result (λ new. (n : ℕ) → has_bit new n
         ≡ (has_bit mask n || (nat_lt i (length (texts_of texts.now))
-        && begins_with_length n (drop place (walked side line.now)) (walked side (slice_index_or (texts_of texts.now) i []))))) }
+        && begins_with_length n (drop index (walked side line.now)) (walked side (slice_index_or (texts_of texts.now) i []))))) }
 {
     if i >= texts.len() {
         return Some(mask);
     }
-    with_text(mask, side, texts.characters(i), line, place)
+    with_text(mask, side, texts.characters(i), line, index)
 }
 
-/// The lengths of the texts that come after this place of the way, which may be those with a bit.
+/// The lengths of the texts that come after this index of the way, which may be those with a bit.
 #[inline(always)]
-fn text_lengths(begun: u64, side: Side, texts: &Texts, line: &[u8], place: usize) -> Option<u64>
-    requires inside { place ≤ length line.now }
-    requires begun { HasBits begun side (drop place (walked side line.now)) (texts_of texts.now) }
+fn text_lengths(begun: u64, side: Side, texts: &Texts, line: &[u8], index: usize) -> Option<u64>
+    requires inside { index ≤ length line.now }
+    requires begun { HasBits begun side (drop index (walked side line.now)) (texts_of texts.now) }
     ensures { IfSome result (λ mask. (n : ℕ) → has_bit mask n
-        ≡ list_any (λ t. begins_with_length n (drop place (walked side line.now)) (walked side t)) (texts_of texts.now)) }
+        ≡ list_any (λ t. begins_with_length n (drop index (walked side line.now)) (walked side t)) (texts_of texts.now)) }
 {
     let mut mask = 0u64;
     let mut left = begun;
     while left != 0 {
         let lowest = left.trailing_zeros() as usize;
-        mask = with_number(mask, side, texts, lowest, line, place)?;
+        mask = with_number(mask, side, texts, lowest, line, index)?;
         left &= left - 1;
     }
     Some(mask)
 }
 
-/// Whether white space is at this place of the way.
+/// Whether white space is at this index of the way.
 #[inline(always)]
-fn is_space_at(side: Side, line: &[u8], place: usize) -> bool
-    ensures { result ≡ is_whitespace (slice_index (walked side line.now) place) }
+fn is_space_at(side: Side, line: &[u8], index: usize) -> bool
+    ensures { result ≡ is_whitespace (slice_index (walked side line.now) index) }
 {
-    if place >= line.len() {
+    if index >= line.len() {
         return false;
     }
-    is_white(byte_at(line, side, place))
+    is_white(byte_at(line, side, index))
 }
 
-/// Adds bit n where this text and a white space character, n characters in all, come after this place of the way. Nothing
+/// Adds bit n where this text and a white space character, n characters in all, come after this index of the way. Nothing
 /// is said where the text is very long.
 #[inline(always)]
-fn with_spaced(mask: u64, side: Side, text: &[char], line: &[u8], place: usize) -> Option<u64>
-    requires { place ≤ length line.now }
+fn with_spaced(mask: u64, side: Side, text: &[char], line: &[u8], index: usize) -> Option<u64>
+    requires { index ≤ length line.now }
     ensures { IfSome result (λ new. (n : ℕ) → has_bit new n
-        ≡ (has_bit mask n || begins_with_spaced n (drop place (walked side line.now)) (walked side text.now))) }
+        ≡ (has_bit mask n || begins_with_spaced n (drop index (walked side line.now)) (walked side text.now))) }
 {
-    if !occurs(side, text, line, place) {
+    if !occurs(side, text, line, index) {
         return Some(mask);
     }
     if text.len() > LONGEST {
         return None;
     }
-    if !is_space_at(side, line, place + text.len()) {
+    if !is_space_at(side, line, index + text.len()) {
         return Some(mask);
     }
     Some(mask | 1 << (text.len() + 1))
 }
 
-/// The lengths of the texts that come after this place of the way with one white space character after them.
+/// The lengths of the texts that come after this index of the way with one white space character after them.
 #[inline(always)]
-fn spaced_lengths(side: Side, texts: &Texts, line: &[u8], place: usize) -> Option<u64>
-    requires { place ≤ length line.now }
+fn spaced_lengths(side: Side, texts: &Texts, line: &[u8], index: usize) -> Option<u64>
+    requires { index ≤ length line.now }
     ensures { IfSome result (λ mask. (n : ℕ) → has_bit mask n
-        ≡ list_any (λ t. begins_with_spaced n (drop place (walked side line.now)) (walked side t)) (texts_of texts.now)) }
+        ≡ list_any (λ t. begins_with_spaced n (drop index (walked side line.now)) (walked side t)) (texts_of texts.now)) }
 {
     let mut mask = 0u64;
     for i in 0..texts.len() {
-        mask = with_spaced(mask, side, texts.characters(i), line, place)?;
+        mask = with_spaced(mask, side, texts.characters(i), line, index)?;
     }
     Some(mask)
 }
 
-/// Whether a text comes after this place on the way from a line's end, and its first character once more.
+/// Whether a text comes after this index on the way from a line's end, and its first character once more.
 #[inline(always)]
-fn continues(text: &[char], line: &[u8], place: usize) -> bool
-    requires { place ≤ length line.now }
-    ensures { result ≡ false → continues (drop place (walked End line.now)) text.now ≡ false }
+fn continues(text: &[char], line: &[u8], index: usize) -> bool
+    requires { index ≤ length line.now }
+    ensures { result ≡ false → continues (drop index (walked End line.now)) text.now ≡ false }
 {
     if text.is_empty() {
         return false;
     }
-    if !occurs(Side::End, text, line, place) {
+    if !occurs(Side::End, text, line, index) {
         return false;
     }
-    if text.len() >= line.len() - place {
+    if text.len() >= line.len() - index {
         return false;
     }
-    byte_at(line, Side::End, place + text.len()) as char == text[0]
+    byte_at(line, Side::End, index + text.len()) as char == text[0]
 }
 
 /// Whether one of these texts does.
 #[inline(always)]
-fn any_continues(texts: &Texts, line: &[u8], place: usize) -> bool
-    requires { place ≤ length line.now }
-    ensures { result ≡ false → list_any (continues (drop place (walked End line.now))) (texts_of texts.now) ≡ false }
+fn any_continues(texts: &Texts, line: &[u8], index: usize) -> bool
+    requires { index ≤ length line.now }
+    ensures { result ≡ false → list_any (continues (drop index (walked End line.now))) (texts_of texts.now) ≡ false }
 {
     for i in 0..texts.len() {
-        if continues(texts.characters(i), line, place) {
+        if continues(texts.characters(i), line, index) {
             return true;
         }
     }
@@ -179,19 +179,19 @@ fn below(count: usize) -> u64
 
 /// The lengths of the texts that repeat their first character and are here once. Nothing is said where one repeats it.
 #[inline(always)]
-fn repeated_lengths(rules: &Rules, side: Side, line: &[u8], place: usize) -> Option<u64>
-    requires { place ≤ length line.now }
+fn repeated_lengths(rules: &Rules, side: Side, line: &[u8], index: usize) -> Option<u64>
+    requires { index ≤ length line.now }
     ensures mask { IfSome result (λ mask. (n : ℕ) → has_bit mask n
-        ≡ list_any (λ t. begins_with_length n (drop place (walked side line.now)) (reverse t))
+        ≡ list_any (λ t. begins_with_length n (drop index (walked side line.now)) (reverse t))
         (side_repeated (rules_of rules.now) side)) }
-    ensures once { IfSome result (λ _. list_any (continues (drop place (walked side line.now)))
+    ensures once { IfSome result (λ _. list_any (continues (drop index (walked side line.now)))
         (side_repeated (rules_of rules.now) side) ≡ false) }
 {
     match side {
         Side::Front => Some(0),
         Side::End => {
             let texts = rules.texts(RuleKind::TailRepeat);
-            if any_continues(texts, line, place) {
+            if any_continues(texts, line, index) {
                 return None;
             }
             let count = texts.len();
@@ -199,46 +199,46 @@ fn repeated_lengths(rules: &Rules, side: Side, line: &[u8], place: usize) -> Opt
                 return None;
             }
             let all = below(count);
-            Some(text_lengths(all, Side::End, texts, line, place)?)
+            Some(text_lengths(all, Side::End, texts, line, index)?)
         }
     }
 }
 
-/// How many of one same byte are at this place of the way and right after it.
+/// How many of one same byte are at this index of the way and right after it.
 #[inline(always)]
-fn streak_length(side: Side, line: &[u8], place: usize) -> usize
-    requires { place < length line.now }
-    ensures within { place + result ≤ length line.now }
+fn streak_length(side: Side, line: &[u8], index: usize) -> usize
+    requires { index < length line.now }
+    ensures within { index + result ≤ length line.now }
     ensures same { (i : ℕ) → i < result
-        → slice_index (walked side line.now) (place + i) ≡ slice_index (walked side line.now) place }
-    ensures stop { place + result < length line.now
-        → slice_index (walked side line.now) (place + result) ≢ slice_index (walked side line.now) place }
+        → slice_index (walked side line.now) (index + i) ≡ slice_index (walked side line.now) index }
+    ensures stop { index + result < length line.now
+        → slice_index (walked side line.now) (index + result) ≢ slice_index (walked side line.now) index }
 {
-    let byte = byte_at(line, side, place);
+    let byte = byte_at(line, side, index);
     let mut count = 1;
-    while count < line.len() - place && byte_at(line, side, place + count) == byte {
+    while count < line.len() - index && byte_at(line, side, index + count) == byte {
         count += 1;
     }
     count
 }
 
-/// The lengths of the separators that come after this place of the way. Nothing is said where one is very long.
+/// The lengths of the separators that come after this index of the way. Nothing is said where one is very long.
 #[inline(always)]
-fn separator_lengths(rules: &Rules, side: Side, line: &[u8], place: usize) -> Option<u64>
-    requires { place < length line.now }
+fn separator_lengths(rules: &Rules, side: Side, line: &[u8], index: usize) -> Option<u64>
+    requires { index < length line.now }
     ensures { IfSome result (λ mask. (n : ℕ) → has_bit mask n
-        ≡ begins_with_separator (rules_of rules.now).separators n (drop place (walked side line.now))) }
+        ≡ begins_with_separator (rules_of rules.now).separators n (drop index (walked side line.now))) }
 {
-    if byte_after(line, side, place) != byte_at(line, side, place) {
+    if byte_after(line, side, index) != byte_at(line, side, index) {
         return Some(0);
     }
     if !rules.separators() {
         return Some(0);
     }
-    if !is_mark(byte_at(line, side, place) as char) {
+    if !is_mark(byte_at(line, side, index) as char) {
         return Some(0);
     }
-    let streak = streak_length(side, line, place);
+    let streak = streak_length(side, line, index);
     if streak < SHORTEST_SEPARATOR {
         return Some(0);
     }
@@ -248,25 +248,25 @@ fn separator_lengths(rules: &Rules, side: Side, line: &[u8], place: usize) -> Op
     Some((1 << (streak + 1)) - (1 << SHORTEST_SEPARATOR))
 }
 
-/// The lengths of the pieces that come after this place of the way. Nothing is said where that takes more than a look.
+/// The lengths of the pieces that come after this index of the way. Nothing is said where that takes more than a look.
 #[inline(always)]
-fn piece_lengths(rules: &Rules, side: Side, line: &[u8], place: usize) -> Option<u64>
-    requires { place < length line.now }
-    ensures { IfSome result (λ mask. AreLengths (rules_of rules.now) side (drop place (walked side line.now)) mask) }
+fn piece_lengths(rules: &Rules, side: Side, line: &[u8], index: usize) -> Option<u64>
+    requires { index < length line.now }
+    ensures { IfSome result (λ mask. AreLengths (rules_of rules.now) side (drop index (walked side line.now)) mask) }
 {
-    let space = space_length(byte_at(line, side, place));
-    let separators = separator_lengths(rules, side, line, place)?;
-    let begun = begun_at(rules, side, line, place)?;
+    let space = space_length(byte_at(line, side, index));
+    let separators = separator_lengths(rules, side, line, index)?;
+    let begun = begun_at(rules, side, line, index)?;
     if begun == 0 {
         return Some(space | separators);
     }
-    let texts = text_lengths(begun, side, side_texts(rules, side), line, place)?;
-    let spaced = spaced_lengths(side, side_spaced(rules, side), line, place)?;
-    let repeated = repeated_lengths(rules, side, line, place)?;
+    let texts = text_lengths(begun, side, side_texts(rules, side), line, index)?;
+    let spaced = spaced_lengths(side, side_spaced(rules, side), line, index)?;
+    let repeated = repeated_lengths(rules, side, line, index)?;
     Some(((space | separators) | texts) | (spaced | repeated))
 }
 
-/// Where sequences end from the next place on, bit by bit, given where they end from this place of the way on: one does here.
+/// Where sequences end from the next index on, bit by bit, given where they end from this index of the way on: one does here.
 #[inline(always)]
 fn next_ends(rules: &Rules, side: Side, line: &[u8], at: usize, ends: u64) -> Option<u64>
     requires inside { at < length line.now }
@@ -280,7 +280,7 @@ fn next_ends(rules: &Rules, side: Side, line: &[u8], at: usize, ends: u64) -> Op
     Some((ends | lengths) / 2)
 }
 
-/// How many places further the first sequence ends, and where sequences end from there on.
+/// How many indices further the first sequence ends, and where sequences end from there on.
 #[inline(always)]
 fn first_end(ends: u64) -> (usize, u64)
     requires { 0 < ends }
@@ -325,8 +325,8 @@ fn long_streak(rules: &Rules, side: Side, line: &[u8], at: usize) -> Option<usiz
     Some(streak)
 }
 
-/// Where a long separator is here, a place near its end, and where sequences end from there on: at as many of its last places as a text
-/// can lead out of it from, and at the place after them. Nothing is said where a sequence ends further on than here.
+/// Where a long separator is here, an index near its end, and where sequences end from there on: at as many of its last indices as a text
+/// can lead out of it from, and at the index after them. Nothing is said where a sequence ends further on than here.
 #[inline(always)]
 fn leap(rules: &Rules, side: Side, line: &[u8], at: usize, ends: u64) -> Option<(usize, u64)>
     requires { at < length line.now }
@@ -348,9 +348,9 @@ fn leap(rules: &Rules, side: Side, line: &[u8], at: usize, ends: u64) -> Option<
 }
 
 /// How long the longest sequence of pieces is at this side of a line, which has this much white space there. Nothing is said where that
-/// takes more than looks at the places where sequences end.
+/// takes more than looks at the indices where sequences end.
 #[inline(always)]
-pub(crate) fn sequence_by_places(
+pub(crate) fn sequence_by_indices(
     rules: &Rules,
     side: Side,
     line: &[u8],

@@ -153,14 +153,14 @@ fn is_copyright_sign(text: &[SourceChar]) -> bool
     is_text(&['(', 'c', ')'], text) || is_text(&['(', 'C', ')'], text)
 }
 
-/// The place of the first white space character, or how many characters there are.
+/// The index of the first white space character, or how many characters there are.
 fn first_space(text: &[SourceChar]) -> usize
     ensures within { result ≤ length text.now }
-    ensures place { result ≡ position_or_len is_whitespace (chars_of text.now) }
+    ensures index { result ≡ position_or_len is_whitespace (chars_of text.now) }
 {
-    for (place, s) in text.iter().enumerate() {
+    for (index, s) in text.iter().enumerate() {
         if s.char.is_whitespace() {
-            return place;
+            return index;
         }
     }
     text.len()

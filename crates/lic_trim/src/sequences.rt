@@ -121,7 +121,7 @@ fn separator_ends(flags: &[bool], line: &[SourceChar], side: Side, end: usize, f
     end - first >= 3 && is_mark(char_at(line, side, end - 1))
 }
 
-/// Where the longest streak that reaches the place after k, of the character there, begins at a sequence.
+/// Where the longest streak that reaches the index after k, of the character there, begins at a sequence.
 fn streak_front(flags: &[bool], line: &[SourceChar], side: Side, k: usize, first: usize) -> usize
     requires flagged { k + 1 ≤ length flags.now }
     requires within { k < length line.now }
@@ -158,8 +158,8 @@ pub(crate) fn side_spaced(rules: &Rules, side: Side) -> &Texts
     }
 }
 
-/// Whether this text, its first character once or more, ends after place k, seen from a line's end; given whether it did
-/// before that place.
+/// Whether this text, its first character once or more, ends after index k, seen from a line's end; given whether it did
+/// before that index.
 fn repeat_ends(text: &[char], before: bool, flags: &[bool], line: &[SourceChar], k: usize) -> bool
     requires flagged { k < length flags.now }
     requires within { k < length line.now }
@@ -177,7 +177,7 @@ fn repeat_ends(text: &[char], before: bool, flags: &[bool], line: &[SourceChar],
     len <= k && flags[k - len] && is_text(rest, part(line, Side::End, k - len, k))
 }
 
-/// Moves on by one place what is known of the texts that repeat their first character.
+/// Moves on by one index what is known of the texts that repeat their first character.
 fn step_texts(texts: &Texts, repeating: &mut [bool], flags: &[bool], line: &[SourceChar], k: usize)
     requires flagged { k < length flags.now }
     requires within { k < length line.now }
@@ -221,7 +221,7 @@ fn any_set(flags: &[bool]) -> bool
     flags.iter().any(|flag| *flag)
 }
 
-/// What is known before the first place: none of the texts that repeat ends there.
+/// What is known before the first index: none of the texts that repeat ends there.
 fn no_repeats(alloc: Global, rules: &Rules, side: Side) -> Result<Vec<bool>, AllocError>
     ensures { IfOk result (λ v. v.items
         ≡ replicate (length (side_repeated (rules_of rules.now) side)) false) }
@@ -286,7 +286,7 @@ fn piece_ends(
     space | separator | text | (spaced | repeated)
 }
 
-/// Whether the longest streak that reaches the place after k, of the character there, begins at a sequence and is of a mark: a
+/// Whether the longest streak that reaches the index after k, of the character there, begins at a sequence and is of a mark: a
 /// separator may go on there.
 fn separator_goes_on(line: &[SourceChar], side: Side, k: usize, first: usize) -> bool
     requires within { k < length line.now }

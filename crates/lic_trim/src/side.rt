@@ -12,18 +12,18 @@ pub enum Side {
     End,
 }
 
-/// The character at this place of the way.
-pub fn char_at(line: &[SourceChar], side: Side, place: usize) -> char
-    requires { place < length line.now }
-    ensures { result ≡ slice_index (walked side (chars_of line.now)) place }
+/// The character at this index of the way.
+pub fn char_at(line: &[SourceChar], side: Side, index: usize) -> char
+    requires { index < length line.now }
+    ensures { result ≡ slice_index (walked side (chars_of line.now)) index }
 {
     match side {
-        Side::Front => line[place].char,
-        Side::End => line[line.len() - 1 - place].char,
+        Side::Front => line[index].char,
+        Side::End => line[line.len() - 1 - index].char,
     }
 }
 
-/// The part of a line between two places of the way.
+/// The part of a line between two indices of the way.
 pub fn part(line: &[SourceChar], side: Side, from: usize, to: usize) -> &[SourceChar]
     requires order { from ≤ to }
     requires within { to ≤ length line.now }

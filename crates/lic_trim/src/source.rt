@@ -44,8 +44,8 @@ pub fn unplaced(alloc: Global, text: &str) -> Result<Vec<SourceChar>, AllocError
     Ok(characters)
 }
 
-/// Puts the source characters of a text of ASCII that begins at this byte in the place of those that are there.
-pub(crate) fn place(
+/// Puts the source characters of a text of ASCII that begins at this byte in place of those that are there.
+pub(crate) fn put_source(
     characters: &mut Vec<SourceChar>,
     at: u32,
     text: &[u8],

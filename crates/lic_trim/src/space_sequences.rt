@@ -25,13 +25,13 @@ pub(crate) fn begun_texts(rules: &Rules, side: Side, first: char, second: char) 
     }
 }
 
-/// The character after this place of the way, or a blank where there is none.
-fn char_after(line: &[SourceChar], side: Side, place: usize) -> char
-    requires { place < length line.now }
-    ensures { place + 1 < length line.now → result ≡ slice_index (walked side (chars_of line.now)) (place + 1) }
+/// The character after this index of the way, or a blank where there is none.
+fn char_after(line: &[SourceChar], side: Side, index: usize) -> char
+    requires { index < length line.now }
+    ensures { index + 1 < length line.now → result ≡ slice_index (walked side (chars_of line.now)) (index + 1) }
 {
-    if line.len() - place > 1 {
-        char_at(line, side, place + 1)
+    if line.len() - index > 1 {
+        char_at(line, side, index + 1)
     } else {
         ' '
     }
@@ -52,19 +52,19 @@ fn spaces(side: Side, line: &[SourceChar]) -> usize
     count
 }
 
-/// Whether three of one same character are at this place of the way.
-fn three_alike(side: Side, line: &[SourceChar], place: usize) -> bool
-    requires { place < length line.now }
-    ensures { result ≡ false → place + 2 < length line.now
-        → slice_index (walked side (chars_of line.now)) (place + 1)
-        ≡ slice_index (walked side (chars_of line.now)) place
-        → slice_index (walked side (chars_of line.now)) (place + 2)
-        ≢ slice_index (walked side (chars_of line.now)) place }
+/// Whether three of one same character are at this index of the way.
+fn three_alike(side: Side, line: &[SourceChar], index: usize) -> bool
+    requires { index < length line.now }
+    ensures { result ≡ false → index + 2 < length line.now
+        → slice_index (walked side (chars_of line.now)) (index + 1)
+        ≡ slice_index (walked side (chars_of line.now)) index
+        → slice_index (walked side (chars_of line.now)) (index + 2)
+        ≢ slice_index (walked side (chars_of line.now)) index }
 {
-    let c = char_at(line, side, place);
-    line.len() - place > 2
-        && char_at(line, side, place + 1) == c
-        && char_at(line, side, place + 2) == c
+    let c = char_at(line, side, index);
+    line.len() - index > 2
+        && char_at(line, side, index + 1) == c
+        && char_at(line, side, index + 2) == c
 }
 
 /// How long the longest sequence of pieces is if it is white space alone, as far as the characters after that show.

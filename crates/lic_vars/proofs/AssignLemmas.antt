@@ -21,9 +21,9 @@ use Rattle.lic_vars.specs.Moves.{Move, moves}
 use Rattle.lic_vars.specs.Making.{CanMake, LeastOf}
 use Rattle.lic_vars.specs.Recorded.{recorded}
 use Rattle.lic_vars.specs.Cuts.{ReadsOn, moves_of, start}
-use Rattle.lic_vars.specs.Assigners.{AssignerValue, AreStepsOf}
+use Rattle.lic_vars.specs.Assigners.{AssignerValue, AreInstructionsOf}
 use Rattle.lic_vars.specs.Views.{value_of}
-use Rattle.lic_vars.specs.declared.steps.Step.{Step}
+use Rattle.lic_vars.specs.declared.instructions.Instruction.{Instruction}
 use Rattle.lic_vars.specs.declared.values.Value.{Value}
 use Rattle.lic_vars.proofs.MakingLemmas.{can-make, least-derivation}
 use Rattle.lic_vars.proofs.ValueLemmas.{choice-recorded}
@@ -62,12 +62,12 @@ some-tokens tokens part first last order within same =
 
 -- ---- the values of the least record
 
-pub assigned : (set : List Known) (tokens part : List TokenValue) (t : Triple) (known : Known) (steps : List Step)
-    (letters : List Span) (r : List ℕ) (values : List Assigned) → slice_get set t.template ≡ Some known → moves_of steps ≡ moves (nodes_of known)
+pub assigned : (set : List Known) (tokens part : List TokenValue) (t : Triple) (known : Known) (instructions : List Instruction)
+    (letters : List Span) (r : List ℕ) (values : List Assigned) → slice_get set t.template ≡ Some known → moves_of instructions ≡ moves (nodes_of known)
     → AreTexts part → 0 < length part → part ≡ slice_range tokens t.first (t.last + 1)
-    → letters ≡ letter_spans (slice_range tokens t.first (t.last + 1)) → LeastOf (moves_of steps) (ReadsOn part start) r
-    → values ≡ recorded 0 (moves_of steps) r letters → AreValues set tokens t values
-assigned set tokens part t known steps letters r values number m are some same s l v =
+    → letters ≡ letter_spans (slice_range tokens t.first (t.last + 1)) → LeastOf (moves_of instructions) (ReadsOn part start) r
+    → values ≡ recorded 0 (moves_of instructions) r letters → AreValues set tokens t values
+assigned set tokens part t known instructions letters r values number m are some same s l v =
     let ts : List (List ℕ) = letters_between tokens t.first t.last in
     let least : LeastOf (moves (nodes_of known)) (ReadsOn part start) r = subst (λ (x : List Move). LeastOf x (ReadsOn part start) r) m l in
     let d = least-derivation (nodes_of known) ts (ReadsOn part start) r
@@ -82,11 +82,11 @@ assigned set tokens part t known steps letters r values number m are some same s
           ∙ sym (choice-recorded (nodes_of known) d.0.choice (letter_spans (slice_range tokens t.first (t.last + 1))));
     }
 
--- a match can be made by the steps of its template
-pub match-can : (set : List Known) (tokens part : List TokenValue) (t : Triple) (known : Known) (steps : List Step) → IsMatch set tokens t
-    → slice_get set t.template ≡ Some known → moves_of steps ≡ moves (nodes_of known) → AreTexts part → 0 < length part
-    → part ≡ slice_range tokens t.first (t.last + 1) → CanMake (moves_of steps) (ReadsOn part start)
-match-can set tokens part t known steps h number m are some same =
+-- a match can be made by the instructions of its template
+pub match-can : (set : List Known) (tokens part : List TokenValue) (t : Triple) (known : Known) (instructions : List Instruction) → IsMatch set tokens t
+    → slice_get set t.template ≡ Some known → moves_of instructions ≡ moves (nodes_of known) → AreTexts part → 0 < length part
+    → part ≡ slice_range tokens t.first (t.last + 1) → CanMake (moves_of instructions) (ReadsOn part start)
+match-can set tokens part t known instructions h number m are some same =
     let the_same : h.known ≡ known = let e = h.number in cc in
     let ts : List (List ℕ) = letters_between tokens t.first t.last in
     let here : CanMake (moves (nodes_of h.known)) (ReadsOn part start) =
@@ -101,10 +101,10 @@ pub parts-of : (set : List Known) (k : ℕ) (known : Known) (parts : List Part) 
     ((d : Known) → parts ≡ (get_or set k d).template.parts) → parts ≡ known.template.parts
 parts-of set k known parts e h = h known ∙ ap (λ (x : Known). x.template.parts) (get_or_from_slice_get set k known known e)
 
--- an assigner's steps are those of the template of its number
-pub moves-of : (set : List Known) (k : ℕ) (steps : List Step) (v : AssignerValue) (number : ℕ) (known : Known) → AreStepsOf set k steps →
-    record { set = set; template = k } ≡ v → number ≡ v.template → slice_get v.set number ≡ Some known → moves_of steps ≡ moves (nodes_of known)
-moves-of set k steps v number known are view same is =
+-- an assigner's instructions are those of the template of its number
+pub moves-of : (set : List Known) (k : ℕ) (instructions : List Instruction) (v : AssignerValue) (number : ℕ) (known : Known) → AreInstructionsOf set k instructions →
+    record { set = set; template = k } ≡ v → number ≡ v.template → slice_get v.set number ≡ Some known → moves_of instructions ≡ moves (nodes_of known)
+moves-of set k instructions v number known are view same is =
     are.moves known (ap (λ (a : AssignerValue). slice_get a.set a.template) view ∙ ap (slice_get v.set) (sym same) ∙ is)
 
 -- one value more

@@ -8,8 +8,8 @@ use Rattle.lic_view.specs.PlaceSets.{ArePlaced}
 use Rattle.lic_vars.specs.Moves.{Move}
 use Rattle.lic_vars.specs.Cuts.{AreFinishing, last_moves, move_of}
 use Rattle.lic_vars.specs.Sets.{AreSuffixSets, HasOther, IsOther, IsSet, IsThere}
-use Rattle.lic_vars.specs.declared.steps.Step.{Step}
-use Rattle.lic_vars.proofs.SetLemmas.{last-none, step-moves}
+use Rattle.lic_vars.specs.declared.instructions.Instruction.{Instruction}
+use Rattle.lic_vars.proofs.SetLemmas.{last-none, instruction-moves}
 
 abbrev pub Spans : Type 0
 Spans = Vec PlaceSpan Global
@@ -59,22 +59,22 @@ IsThere-stays sets k j v within there =
           is = record { within = omega (arith, many, there.is.within); is = λ d. get_or-set_other sets j k x d other ∙ there.is.is d };
         }
 
-module _ (tokens : List TokenValue) (steps : List Step) where
-  pub sets-put : (sets : List (Option Spans)) (j : ℕ) (v : Spans) → AreSuffixSets tokens steps sets → j < length sets → AreFinishing tokens (last_moves steps j) v.items
-      → AreSuffixSets tokens steps (set sets j (Some v))
+module _ (tokens : List TokenValue) (instructions : List Instruction) where
+  pub sets-put : (sets : List (Option Spans)) (j : ℕ) (v : Spans) → AreSuffixSets tokens instructions sets → j < length sets → AreFinishing tokens (last_moves instructions j) v.items
+      → AreSuffixSets tokens instructions (set sets j (Some v))
   sets-put sets j v sets_are within finish = record {
     are = λ k w is. elim (IsSet-set_back sets k j (Some v) w within is) [
       | inl both ↦
           let same = both.0 in
           let some = both.1 in
           let e : v ≡ w = cc in
-          subst (λ n. AreFinishing tokens (last_moves steps n) w.items) (sym same) (subst (λ (u : Spans). AreFinishing tokens (last_moves steps j) u.items) e finish)
+          subst (λ n. AreFinishing tokens (last_moves instructions n) w.items) (sym same) (subst (λ (u : Spans). AreFinishing tokens (last_moves instructions j) u.items) e finish)
       | inr old ↦ sets_are.are k w old
     ];
     first = IsThere-stays sets 0 j v within sets_are.first;
   }
 
-  pub sets-let_go : (sets : List (Option Spans)) (j : ℕ) → AreSuffixSets tokens steps sets → j < length sets → 0 < j → AreSuffixSets tokens steps (set sets j absent)
+  pub sets-let_go : (sets : List (Option Spans)) (j : ℕ) → AreSuffixSets tokens instructions sets → j < length sets → 0 < j → AreSuffixSets tokens instructions (set sets j absent)
   sets-let_go sets j sets_are within past = record {
     are = λ k w is. elim (IsSet-set_back sets k j absent w within is) [
       | inl both ↦ let gone = both.1 in let none : ⊥ = cc in absurd none
@@ -93,23 +93,23 @@ module _ (tokens : List TokenValue) (steps : List Step) where
 
   -- ---- lists of sets grow by a place and lose their last ones
 
-  pub sets-first : (sets : List (Option Spans)) (v : Spans) → sets ≡ Some v ∷ [] → AreFinishing tokens [] v.items → AreSuffixSets tokens steps sets
+  pub sets-first : (sets : List (Option Spans)) (v : Spans) → sets ≡ Some v ∷ [] → AreFinishing tokens [] v.items → AreSuffixSets tokens instructions sets
   sets-first sets v same finish =
-      let none : [] ≡ last_moves steps 0 = sym (last-none steps) in
-      subst (AreSuffixSets tokens steps) (sym same) (record {
+      let none : [] ≡ last_moves instructions 0 = sym (last-none instructions) in
+      subst (AreSuffixSets tokens instructions) (sym same) (record {
         are = λ k w is.
             let zero_is : k ≡ 0 = omega (arith, is.within) in
             let here : get_or (Some v ∷ []) 0 absent ≡ Some w = subst (λ n. get_or (Some v ∷ []) n absent ≡ Some w) zero_is (is.is absent) in
             let e : v ≡ w = cc in
-            subst (λ (u : Spans). AreFinishing tokens (last_moves steps k) u.items) e
-            (subst (λ n. AreFinishing tokens (last_moves steps n) v.items) (sym zero_is) (subst (λ (ms : List Move). AreFinishing tokens ms v.items) none finish));
+            subst (λ (u : Spans). AreFinishing tokens (last_moves instructions k) u.items) e
+            (subst (λ n. AreFinishing tokens (last_moves instructions n) v.items) (sym zero_is) (subst (λ (ms : List Move). AreFinishing tokens ms v.items) none finish));
         first = record { set = v; is = record { within = omega arith; is = λ d. refl } };
       })
 
-  pub sets-longer : (sets more : List (Option Spans)) → more ≡ sets ++ absent ∷ [] → AreSuffixSets tokens steps sets → AreSuffixSets tokens steps more
+  pub sets-longer : (sets more : List (Option Spans)) → more ≡ sets ++ absent ∷ [] → AreSuffixSets tokens instructions sets → AreSuffixSets tokens instructions more
   sets-longer sets more same sets_are =
       let many = length-append sets (absent ∷ []) in
-      subst (AreSuffixSets tokens steps) (sym same) (record {
+      subst (AreSuffixSets tokens instructions) (sym same) (record {
         are = λ k w is. elim (cases_lt k (length sets)) [
           | inl before ↦ sets_are.are k w (record { within = before; is = λ d. sym (get_or_append_left sets (absent ∷ []) d k before) ∙ is.is d })
           | inr after ↦
@@ -129,7 +129,7 @@ module _ (tokens : List TokenValue) (steps : List Step) where
         };
       })
 
-  pub sets-front : (sets : List (Option Spans)) (n : ℕ) → 0 < n → AreSuffixSets tokens steps sets → AreSuffixSets tokens steps (take n sets)
+  pub sets-front : (sets : List (Option Spans)) (n : ℕ) → 0 < n → AreSuffixSets tokens instructions sets → AreSuffixSets tokens instructions (take n sets)
   sets-front sets n some sets_are =
       let many = length-take n sets in
       record {
@@ -145,27 +145,27 @@ module _ (tokens : List TokenValue) (steps : List Step) where
         };
       }
 
--- ---- the set that a step leads to when it is left out
+-- ---- the set that an instruction leads to when it is left out
 
-pub IsOther-here : (steps : List Step) (n size : ℕ) (step : Step) → 0 < n → n ≤ length steps → step ≡ get_or steps (length steps - n) step → step ≡ Step.Optional size
-    → IsOther steps n (n - 1 - size)
-IsOther-here steps n size step some within is same = record {
+pub IsOther-here : (instructions : List Instruction) (n size : ℕ) (instruction : Instruction) → 0 < n → n ≤ length instructions → instruction ≡ get_or instructions (length instructions - n) instruction → instruction ≡ Instruction.Optional size
+    → IsOther instructions n (n - 1 - size)
+IsOther-here instructions n size instruction some within is same = record {
   size = size;
-  moves = last_moves steps (n - 1);
-  step = step-moves steps n step some within is ∙ ap (λ (s : Step). move_of s ∷ last_moves steps (n - 1)) same;
+  moves = last_moves instructions (n - 1);
+  instruction = instruction-moves instructions n instruction some within is ∙ ap (λ (s : Instruction). move_of s ∷ last_moves instructions (n - 1)) same;
   is = refl;
 }
 
 -- ---- a set that is there, as the code has its spans
 
-pub finish-there : (tokens : List TokenValue) (steps : List Step) (sets : List (Option Spans)) (k : ℕ) (spans : List PlaceSpan) → AreSuffixSets tokens steps sets → IsThere sets k
-    → ((v : Spans) → IsSet sets k v → spans ≡ v.items) → AreFinishing tokens (last_moves steps k) spans
-finish-there tokens steps sets k spans sets_are there items =
-    subst (AreFinishing tokens (last_moves steps k)) (sym (items there.set there.is)) (sets_are.are k there.set there.is)
+pub finish-there : (tokens : List TokenValue) (instructions : List Instruction) (sets : List (Option Spans)) (k : ℕ) (spans : List PlaceSpan) → AreSuffixSets tokens instructions sets → IsThere sets k
+    → ((v : Spans) → IsSet sets k v → spans ≡ v.items) → AreFinishing tokens (last_moves instructions k) spans
+finish-there tokens instructions sets k spans sets_are there items =
+    subst (AreFinishing tokens (last_moves instructions k)) (sym (items there.set there.is)) (sets_are.are k there.set there.is)
 
-pub placed-there : (tokens : List TokenValue) (steps : List Step) (sets : List (Option Spans)) (k : ℕ) (spans : List PlaceSpan) → AreSuffixSets tokens steps sets → IsThere sets k
+pub placed-there : (tokens : List TokenValue) (instructions : List Instruction) (sets : List (Option Spans)) (k : ℕ) (spans : List PlaceSpan) → AreSuffixSets tokens instructions sets → IsThere sets k
     → ((v : Spans) → IsSet sets k v → spans ≡ v.items) → ArePlaced tokens spans
-placed-there tokens steps sets k spans sets_are there items = (finish-there tokens steps sets k spans sets_are there items).placed
+placed-there tokens instructions sets k spans sets_are there items = (finish-there tokens instructions sets k spans sets_are there items).placed
 
 pub HasOther-less : (sets : List (Option Spans)) (high low other : ℕ) → low ≤ high → HasOther sets high other → HasOther sets low other
 HasOther-less sets high low other order (inl there) = inl there

@@ -50,10 +50,10 @@ module _ (tokens : List TokenValue) (first i : ℕ) (d : TokenValue) (order : fi
       ∙ ap (λ s. letter_spans (slice_range tokens first i) ++ s) (append-nil (replicate (letters_in (chars (get_or tokens i d).text)) (get_or tokens i d).span))
 
   -- the letters of one token more
-  pub spans-step : (old new : List Span) (t : List ℕ) (s : Span) → new ≡ old ++ replicate (letters_in (chars t)) s →
+  pub spans-instruction : (old new : List Span) (t : List ℕ) (s : Span) → new ≡ old ++ replicate (letters_in (chars t)) s →
       old ≡ letter_spans (slice_range tokens first i) → t ≡ (get_or tokens i d).text → s ≡ (get_or tokens i d).span →
       new ≡ letter_spans (slice_range tokens first (i + 1))
-  spans-step old new t s e f h k =
+  spans-instruction old new t s e f h k =
       e ∙ ap (λ x. x ++ replicate (letters_in (chars t)) s) f ∙ ap (λ x. letter_spans (slice_range tokens first i) ++ replicate (letters_in (chars x)) s) h
       ∙ ap (λ x. letter_spans (slice_range tokens first i) ++ replicate (letters_in (chars (get_or tokens i d).text)) x) k
       ∙ sym spans-more

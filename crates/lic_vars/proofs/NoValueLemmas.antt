@@ -15,7 +15,7 @@ use Rattle.lic_vars.specs.Cuts.{HasNoValue, move_of, moves_of}
 use Rattle.lic_vars.specs.Derivations.{Choice}
 use Rattle.lic_vars.specs.Moves.{Move, text, variable, optional, moves}
 use Rattle.lic_vars.specs.Values.{AreValues, absent_values, choice_values, nodes_of}
-use Rattle.lic_vars.specs.declared.steps.Step.{Step}
+use Rattle.lic_vars.specs.declared.instructions.Instruction.{Instruction}
 use Rattle.lic_vars.proofs.ExistLemmas.{values-exist}
 
 abbrev IsNoVariable : Move → Type 0
@@ -48,22 +48,22 @@ no-choice (one_more (parts.optional body) rest) (Some b, c) spans all =
     let both = All-tail IsNoVariable _ (moves body ++ moves rest) all in
     rw (no-choice body b spans (front (moves body) (moves rest) both)) (no-choice rest c _ (back (moves body) (moves rest) both))
 
-pub no-value : (step : Step) → ((name : Bor (List ℕ)) (ere : Bor Ere) (is_empty : Bool) → step ≡ Step.Variable name ere is_empty → ⊥) → HasNoValue step
-no-value (Step.Text letters) none = tt
-no-value (Step.Variable name ere is_empty) none = none name ere is_empty refl
-no-value (Step.Optional n) none = tt
+pub no-value : (instruction : Instruction) → ((name : Bor (List ℕ)) (ere : Bor Ere) (is_empty : Bool) → instruction ≡ Instruction.Variable name ere is_empty → ⊥) → HasNoValue instruction
+no-value (Instruction.Text letters) none = tt
+no-value (Instruction.Variable name ere is_empty) none = none name ere is_empty refl
+no-value (Instruction.Optional n) none = tt
 
-no-variable : (step : Step) → HasNoValue step → IsNoVariable (move_of step)
-no-variable (Step.Text letters) h = h
-no-variable (Step.Variable name ere is_empty) h = h
-no-variable (Step.Optional n) h = h
+no-variable : (instruction : Instruction) → HasNoValue instruction → IsNoVariable (move_of instruction)
+no-variable (Instruction.Text letters) h = h
+no-variable (Instruction.Variable name ere is_empty) h = h
+no-variable (Instruction.Optional n) h = h
 
-pub no-values : (set : List Known) (tokens : List TokenValue) (t : Triple) (steps : List Step) (is : IsMatch set tokens t)
-    → moves_of steps ≡ moves (nodes_of is.known) → All HasNoValue steps → AreValues set tokens t []
-no-values set tokens t steps is same none =
+pub no-values : (set : List Known) (tokens : List TokenValue) (t : Triple) (instructions : List Instruction) (is : IsMatch set tokens t)
+    → moves_of instructions ≡ moves (nodes_of is.known) → All HasNoValue instructions → AreValues set tokens t []
+no-values set tokens t instructions is same none =
     let found = values-exist set tokens t is in
     let known : found.1.known ≡ is.known = let e = found.1.number in let f = is.number in cc in
-    let all = All-map IsNoVariable move_of steps (All-weaker HasNoValue (λ s. IsNoVariable (move_of s)) no-variable steps none) in
+    let all = All-map IsNoVariable move_of instructions (All-weaker HasNoValue (λ s. IsNoVariable (move_of s)) no-variable instructions none) in
     let moved : All IsNoVariable (moves (nodes_of found.1.known)) =
     subst (λ (k : Known). All IsNoVariable (moves (nodes_of k))) (sym known) (subst (All IsNoVariable) same all) in
     let nothing = found.1.same ∙ no-choice (nodes_of found.1.known) found.1.derivation.choice _ moved in

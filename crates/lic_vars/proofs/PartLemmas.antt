@@ -1,4 +1,4 @@
--- The steps of a template are the moves of its nodes.
+-- The instructions of a template are the moves of its nodes.
 use Rattle.std.proofs.Common.{◌≡◌, ℕ, zero, suc, arith, ◌+◌, ◌<◌, ◌≤◌, List, [], ◌∷◌, ◌++◌, length, drop, get_or, map, Vec, Global, String, sym, ap, ◌∙◌, subst, append_assoc}
 use Rattle.std.proofs.lemmas.List.{drop_more, map-append, length-map}
 use Rattle.std.proofs.lemmas.List.Elements.{All-push, All-append}
@@ -16,7 +16,7 @@ use Rattle.lic_markup.specs.PartTexts.{HasPieceTexts, HavePieceTexts}
 use Rattle.lic_phrases.specs.PieceTexts.{IsPieceText}
 use Rattle.lic_vars.specs.Moves.{Move, text, variable, optional, moves}
 use Rattle.lic_vars.specs.Cuts.{move_of, moves_of, IsPiece}
-use Rattle.lic_vars.specs.declared.steps.Step.{Step}
+use Rattle.lic_vars.specs.declared.instructions.Instruction.{Instruction}
 
 part_of_Text : (t : String Global) → part_of (Text t) ≡ parts.letters (string_bytes t)
 part_of_Text t = ap part_of (sym (rolls-Text t)) ∙ fold-roll-Part Node part_node (Part-F.Text t)
@@ -49,24 +49,24 @@ module _ (all : List Part) (i : ℕ) (p : Part) (h : i < length all) (e : p ≡ 
       ≡ optional (length (moves (sequence (map part_of body.items)))) ∷ (moves (sequence (map part_of body.items)) ++ moves (sequence (map part_of (drop (i + 1) all))))
   more-Optional body q = ap moves (sequence_more (parts.optional (sequence (map part_of body.items))) (ap part_of q ∙ part_of_Optional body))
 
-pub pushed : (a b : List Step) (x : Step) (m : Move) (rest whole : List Move) → b ≡ a ++ x ∷ [] → move_of x ≡ m → whole ≡ m ∷ rest →
+pub pushed : (a b : List Instruction) (x : Instruction) (m : Move) (rest whole : List Move) → b ≡ a ++ x ∷ [] → move_of x ≡ m → whole ≡ m ∷ rest →
     moves_of b ++ rest ≡ moves_of a ++ whole
 pushed a b x m rest whole e f g =
-    ap (λ (s : List Step). moves_of s ++ rest) e ∙ ap (λ (s : List Move). s ++ rest) (map-append move_of a (x ∷ []))
+    ap (λ (s : List Instruction). moves_of s ++ rest) e ∙ ap (λ (s : List Move). s ++ rest) (map-append move_of a (x ∷ []))
     ∙ append_assoc (moves_of a) (move_of x ∷ []) rest ∙ ap (λ (y : Move). moves_of a ++ y ∷ rest) f ∙ ap (λ (s : List Move). moves_of a ++ s) (sym g)
 
-pub pushed-optional : (a b c inner : List Step) (x : Step) (n : ℕ) (body rest whole : List Move) → b ≡ a ++ x ∷ [] → move_of x ≡ optional n → n ≡ length inner →
+pub pushed-optional : (a b c inner : List Instruction) (x : Instruction) (n : ℕ) (body rest whole : List Move) → b ≡ a ++ x ∷ [] → move_of x ≡ optional n → n ≡ length inner →
     moves_of inner ≡ body → c ≡ b ++ inner → whole ≡ optional (length body) ∷ (body ++ rest) → moves_of c ++ rest ≡ moves_of a ++ whole
 pushed-optional a b c inner x n body rest whole e f m i d g =
     let count : n ≡ length body = m ∙ sym (length-map inner move_of) ∙ ap length i in
-    ap (λ (s : List Step). moves_of s ++ rest) d ∙ ap (λ (s : List Move). s ++ rest) (map-append move_of b inner)
+    ap (λ (s : List Instruction). moves_of s ++ rest) d ∙ ap (λ (s : List Move). s ++ rest) (map-append move_of b inner)
     ∙ append_assoc (moves_of b) (moves_of inner) rest ∙ ap (λ (s : List Move). moves_of b ++ (s ++ rest)) i
     ∙ pushed a b x (optional (length body)) (body ++ rest) whole e (f ∙ ap optional count) g
 
-pub pieces-pushed : (a b : List Step) (x : Step) → b ≡ a ++ x ∷ [] → All IsPiece a → IsPiece x → All IsPiece b
+pub pieces-pushed : (a b : List Instruction) (x : Instruction) → b ≡ a ++ x ∷ [] → All IsPiece a → IsPiece x → All IsPiece b
 pieces-pushed a b x e h k = subst (All IsPiece) (sym e) (All-push IsPiece a x h k)
 
-pub pieces-appended : (a b c : List Step) → c ≡ a ++ b → All IsPiece a → All IsPiece b → All IsPiece c
+pub pieces-appended : (a b c : List Instruction) → c ≡ a ++ b → All IsPiece a → All IsPiece b → All IsPiece c
 pieces-appended a b c e h k = subst (All IsPiece) (sym e) (All-append IsPiece a b h k)
 
 -- ---- the texts of parts

@@ -1,4 +1,4 @@
--- The places from which the last steps can finish.
+-- The places from which the last instructions can finish.
 use Rattle.std.specs.Result.{IfOk}
 use Rattle.std.proofs.Common.{◌≡◌, ℕ, zero, suc, ◌+◌, ◌-◌, ◌<◌, ◌≤◌, ◌⊎◌, inl, inr, ◌↔◌, Result, Ok, Err, List, [], ◌∷◌, ◌++◌, length, get_or, drop, drop-cons, refl, sym, ap, ◌∙◌, subst, arith}
 use Rattle.std.proofs.Math.Seq.{drop-length}
@@ -20,21 +20,21 @@ use Rattle.lic_view.proofs.Placed.{Reaches-append, Reaches-append_left, Reaches-
 use Rattle.lic_vars.specs.Moves.{Move, text, variable, optional}
 use Rattle.lic_vars.specs.Making.{CanMake, Makes, ends, writes, picks, enters, skips}
 use Rattle.lic_vars.specs.Cuts.{AreFinishing, last_moves, move_of, moves_of}
-use Rattle.lic_vars.specs.declared.steps.Step.{Step}
+use Rattle.lic_vars.specs.declared.instructions.Instruction.{Instruction}
 use Rattle.lic_vars.proofs.WithinLemmas.{end-reached, one-end, reach-end}
 
--- ---- the last steps
+-- ---- the last instructions
 
-pub last-none : (steps : List Step) → last_moves steps 0 ≡ []
-last-none steps =
-    let all : length steps - 0 ≡ length steps = omega arith in
-    ap (λ n. moves_of (drop n steps)) all ∙ ap moves_of (drop-length steps)
+pub last-none : (instructions : List Instruction) → last_moves instructions 0 ≡ []
+last-none instructions =
+    let all : length instructions - 0 ≡ length instructions = omega arith in
+    ap (λ n. moves_of (drop n instructions)) all ∙ ap moves_of (drop-length instructions)
 
-pub last-more : (steps : List Step) (k i : ℕ) (d : Step) → suc k ≤ length steps → i ≡ length steps - suc k → last_moves steps (suc k) ≡ move_of (get_or steps i d) ∷ last_moves steps k
-last-more steps k i d within is =
-    let next : suc i ≡ length steps - k = omega (arith, is) in
-    ap (λ n. moves_of (drop n steps)) (sym is) ∙ ap moves_of (drop-cons steps i d (omega (arith, is)))
-    ∙ ap (λ n. move_of (get_or steps i d) ∷ moves_of (drop n steps)) next
+pub last-more : (instructions : List Instruction) (k i : ℕ) (d : Instruction) → suc k ≤ length instructions → i ≡ length instructions - suc k → last_moves instructions (suc k) ≡ move_of (get_or instructions i d) ∷ last_moves instructions k
+last-more instructions k i d within is =
+    let next : suc i ≡ length instructions - k = omega (arith, is) in
+    ap (λ n. moves_of (drop n instructions)) (sym is) ∙ ap moves_of (drop-cons instructions i d (omega (arith, is)))
+    ∙ ap (λ n. move_of (get_or instructions i d) ∷ moves_of (drop n instructions)) next
 
 drop-past : {X : Type 0} (xs : List X) (n : ℕ) → length xs ≤ n → drop n xs ≡ []
 drop-past [] zero h = refl
@@ -42,14 +42,14 @@ drop-past [] (suc n) h = refl
 drop-past (x ∷ xs) zero h = absurd (omega arith)
 drop-past (x ∷ xs) (suc n) h = drop-past xs n (omega arith)
 
-pub last-fewer : (steps : List Step) (k n : ℕ) → k ≤ length steps → drop n (last_moves steps k) ≡ last_moves steps (k - n)
-last-fewer steps k n within =
-    drop-map move_of n (drop (length steps - k) steps) ∙ ap moves_of (drop-drop n (length steps - k) steps) ∙ by (cases_lt k n)
+pub last-fewer : (instructions : List Instruction) (k n : ℕ) → k ≤ length instructions → drop n (last_moves instructions k) ≡ last_moves instructions (k - n)
+last-fewer instructions k n within =
+    drop-map move_of n (drop (length instructions - k) instructions) ∙ ap moves_of (drop-drop n (length instructions - k) instructions) ∙ by (cases_lt k n)
   where
-    by : (k < n) ⊎ (n ≤ k) → moves_of (drop (length steps - k + n) steps) ≡ last_moves steps (k - n)
-    by (inr le) = let same : length steps - k + n ≡ length steps - (k - n) = omega arith in ap (λ m. moves_of (drop m steps)) same
+    by : (k < n) ⊎ (n ≤ k) → moves_of (drop (length instructions - k + n) instructions) ≡ last_moves instructions (k - n)
+    by (inr le) = let same : length instructions - k + n ≡ length instructions - (k - n) = omega arith in ap (λ m. moves_of (drop m instructions)) same
     by (inl less) =
-        ap moves_of (drop-past steps (length steps - k + n) (omega arith)) ∙ ap moves_of (sym (drop-past steps (length steps - (k - n)) (omega arith)))
+        ap moves_of (drop-past instructions (length instructions - k + n) (omega arith)) ∙ ap moves_of (sym (drop-past instructions (length instructions - (k - n)) (omega arith)))
 
 -- ---- the end
 
@@ -170,22 +170,22 @@ module _ (tokens : List TokenValue) (are : AreTexts tokens) where
       );
     }
 
--- ---- one step more, as the code has it
+-- ---- one instruction more, as the code has it
 
-pub step-moves : (steps : List Step) (n : ℕ) (step : Step) → 0 < n → n ≤ length steps → step ≡ get_or steps (length steps - n) step
-    → last_moves steps n ≡ move_of step ∷ last_moves steps (n - 1)
-step-moves steps zero step some within is = absurd (omega arith)
-step-moves steps (suc k) step some within is =
+pub instruction-moves : (instructions : List Instruction) (n : ℕ) (instruction : Instruction) → 0 < n → n ≤ length instructions → instruction ≡ get_or instructions (length instructions - n) instruction
+    → last_moves instructions n ≡ move_of instruction ∷ last_moves instructions (n - 1)
+instruction-moves instructions zero instruction some within is = absurd (omega arith)
+instruction-moves instructions (suc k) instruction some within is =
     let less : k ≡ suc k - 1 = omega arith in
-    last-more steps k (length steps - suc k) step within refl ∙ ap (λ s. move_of s ∷ last_moves steps k) (sym is)
-    ∙ ap (λ n. move_of step ∷ last_moves steps n) less
+    last-more instructions k (length instructions - suc k) instruction within refl ∙ ap (λ s. move_of s ∷ last_moves instructions k) (sym is)
+    ∙ ap (λ n. move_of instruction ∷ last_moves instructions n) less
 
 pub ok-then : {T E : Type 0} (r : Result T E) (P Q : T → Type 0) → IfOk r P → ((x : T) → P x → Q x) → IfOk r Q
 ok-then (Ok x) P Q h f = f x h
 ok-then (Err e) P Q h f = h
 
--- the moves of one step more
-pub moves-of_step : (steps : List Step) (n : ℕ) (step one : Step) → 0 < n → n ≤ length steps → step ≡ get_or steps (length steps - n) step → step ≡ one
-    → move_of one ∷ last_moves steps (n - 1) ≡ last_moves steps n
-moves-of_step steps n step one some within is same =
-    ap (λ s. move_of s ∷ last_moves steps (n - 1)) (sym same) ∙ sym (step-moves steps n step some within is)
+-- the moves of one instruction more
+pub moves-of_step : (instructions : List Instruction) (n : ℕ) (instruction one : Instruction) → 0 < n → n ≤ length instructions → instruction ≡ get_or instructions (length instructions - n) instruction → instruction ≡ one
+    → move_of one ∷ last_moves instructions (n - 1) ≡ last_moves instructions n
+moves-of_step instructions n instruction one some within is same =
+    ap (λ s. move_of s ∷ last_moves instructions (n - 1)) (sym same) ∙ sym (instruction-moves instructions n instruction some within is)

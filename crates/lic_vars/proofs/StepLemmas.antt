@@ -1,4 +1,4 @@
--- One step more on the way to the least record.
+-- One instruction more on the way to the least record.
 use Rattle.std.proofs.Common.{◌≡◌, ℕ, ◌<◌, ◌≤◌, inl, inr, ◌↔◌, Bool, true, false, List, [], ◌∷◌, ◌++◌, length, drop, take, refl, sym, subst, arith, append-nil}
 use Rattle.std.specs.Prelude.{Contains}
 use Rattle.std.proofs.lemmas.Bool.{true≢false}
@@ -97,7 +97,7 @@ module _ (tokens : List TokenValue) (are : AreTexts tokens) where
           let can = (finish.exact short.end).0 (short.last, short.reached) in
           record { choices = can.choices; word = can.word; makes = can.makes; is = lead-joined tokens are next.place next.is_apart short.end end can.word short.here can.is }
 
-  -- ---- one step more
+  -- ---- one instruction more
 
   module _ (all ms : List Move) (letters : List Span) (values : List Assigned) (cut : Cut) (after : List Span) where
     pub walk-text : (u : Word) (next : Cut) → IsWalk tokens all (text u ∷ ms) letters values cut after → LeadsTo tokens cut u next

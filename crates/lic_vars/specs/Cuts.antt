@@ -1,4 +1,4 @@
--- What the code's steps and cuts represent.
+-- What the code's instructions and cuts represent.
 use Rattle.std.specs.Prelude.{◌≡◌, ℕ, ◌+◌, ◌-◌, ◌&&◌, ◌↔◌, Bool, true, false, List, ◌∷◌, ◌++◌, drop, map, length, chars, if◌then◌else◌}
 use Rattle.lic_words.specs.Words.{Word, blank}
 use Rattle.lic_phrases.specs.PieceTexts.{IsPieceText}
@@ -13,31 +13,31 @@ use Rattle.lic_view.specs.PlaceSets.{ArePlaced, Reaches}
 use Rattle.lic_vars.specs.Moves.{Move, text, variable, optional}
 use Rattle.lic_vars.specs.Making.{CanMake}
 use Rattle.lic_vars.specs.declared.cut.Cut.{Cut}
-use Rattle.lic_vars.specs.declared.steps.Step.{Step}
+use Rattle.lic_vars.specs.declared.instructions.Instruction.{Instruction}
 
-abbrev pub move_of : Step → Move
-move_of (Step.Text letters) = text (chars letters.now)
-move_of (Step.Variable name ere is_empty) = variable name.now (tree_words (tree_of ere.now))
-move_of (Step.Optional n) = optional n
+abbrev pub move_of : Instruction → Move
+move_of (Instruction.Text letters) = text (chars letters.now)
+move_of (Instruction.Variable name ere is_empty) = variable name.now (tree_words (tree_of ere.now))
+move_of (Instruction.Optional n) = optional n
 
-abbrev pub moves_of : List Step → List Move
+abbrev pub moves_of : List Instruction → List Move
 moves_of = map move_of
 
--- the moves of the last `k` steps
-abbrev pub last_moves : List Step → ℕ → List Move
-last_moves steps k = moves_of (drop (length steps - k) steps)
+-- the moves of the last `k` instructions
+abbrev pub last_moves : List Instruction → ℕ → List Move
+last_moves instructions k = moves_of (drop (length instructions - k) instructions)
 
 -- a text is one that pieces have, and a pattern has the empty word alone where that is said
-abbrev pub IsPiece : Step → Type 0
-IsPiece (Step.Text letters) = IsPieceText letters.now
-IsPiece (Step.Variable name ere is_empty) = is_empty ≡ true → HasEmptyWordAlone (tree_words (tree_of ere.now))
-IsPiece (Step.Optional n) = Unit {0}
+abbrev pub IsPiece : Instruction → Type 0
+IsPiece (Instruction.Text letters) = IsPieceText letters.now
+IsPiece (Instruction.Variable name ere is_empty) = is_empty ≡ true → HasEmptyWordAlone (tree_words (tree_of ere.now))
+IsPiece (Instruction.Optional n) = Unit {0}
 
--- no value comes of the step
-abbrev pub HasNoValue : Step → Type 0
-HasNoValue (Step.Text letters) = Unit {0}
-HasNoValue (Step.Variable name ere is_empty) = ⊥
-HasNoValue (Step.Optional n) = Unit {0}
+-- no value comes of the instruction
+abbrev pub HasNoValue : Instruction → Type 0
+HasNoValue (Instruction.Text letters) = Unit {0}
+HasNoValue (Instruction.Variable name ere is_empty) = ⊥
+HasNoValue (Instruction.Optional n) = Unit {0}
 
 -- the word, and the blank that was written before it
 abbrev pub lead : Bool → Word → Word

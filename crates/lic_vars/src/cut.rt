@@ -1,4 +1,4 @@
-//! Places on the way from the first step to the last.
+//! Places on the way from the first instruction to the last.
 
 ghost use Rattle.std.specs.Prelude.{◌≡◌, ◌↔◌, ◌++◌, ◌∷◌, [], ℕ, IsTrue};
 ghost use Rattle.std.specs.Str.{chars};

@@ -4,10 +4,10 @@ ghost use Rattle.std.specs.Prelude.{◌≡◌, ◌<◌, ◌≤◌, ◌+◌, All,
 ghost use Rattle.lic_norm.specs.Tokens.{TokenValue};
 ghost use Rattle.lic_vars.specs.Cuts.{IsPiece};
 ghost use Rattle.lic_vars.specs.Sets.{AreSuffixSets};
-ghost use Rattle.lic_vars.specs.declared.steps.Step.{Step};
+ghost use Rattle.lic_vars.specs.declared.instructions.Instruction.{Instruction};
 
+use crate::instructions::Instruction;
 use crate::sets::{end_alone, fill, set_of};
-use crate::steps::Step;
 use lic_spans::PlaceSpan;
 use lic_view::View;
 use std::alloc::{AllocError, Global};
@@ -18,40 +18,44 @@ const FEW: usize = 16;
 // Of the others those are kept that are made first, up to this number of spans together.
 const MANY: usize = 1 << 20;
 
-/// For each number of steps but all, the places from which that many of the last steps lead to the end of the last token: of the sets
+/// For each number of instructions but all, the places from which that many of the last instructions lead to the end of the last token: of the sets
 /// of many spans as many as may be kept, and as are needed to make the others again in blocks.
 pub fn suffix_sets(
     alloc: Global,
     view: &View<'_>,
-    steps: &[Step],
+    instructions: &[Instruction],
 ) -> Result<Vec<Option<Vec<PlaceSpan>>>, AllocError>
     requires some { 0 < length view.now }
-    requires pieces { All IsPiece steps.now }
-    ensures sets { IfOk result (λ sets. AreSuffixSets view.now steps.now sets.items) }
-    ensures count { IfOk result (λ sets. length steps.now ≤ length sets.items) }
+    requires pieces { All IsPiece instructions.now }
+    ensures sets { IfOk result (λ sets. AreSuffixSets view.now instructions.now sets.items) }
+    ensures count { IfOk result (λ sets. length instructions.now ≤ length sets.items) }
 {
     // there are about as many blocks as sets in a block
-    let block = steps.len().isqrt().max(1);
-    let mut stays = needed_sets(alloc, steps, block)?;
+    let block = instructions.len().isqrt().max(1);
+    let mut stays = needed_sets(alloc, instructions, block)?;
     let mut spare = MANY;
-    let mut sets = end_alone(alloc, view, steps)?;
-    for number in 1..steps.len() {
+    let mut sets = end_alone(alloc, view, instructions)?;
+    for number in 1..instructions.len() {
         sets.push(None)?;
-        fill(alloc, view, steps, &mut sets, number)?;
+        fill(alloc, view, instructions, &mut sets, number)?;
         let count = set_of(&sets, number).len();
-        stays[number] |= fits(&steps[steps.len() - number - 1], count, &mut spare);
+        stays[number] |= fits(
+            &instructions[instructions.len() - number - 1],
+            count,
+            &mut spare,
+        );
         let_go(&mut sets, &stays, number.saturating_sub(block));
     }
     Ok(sets)
 }
 
-// Whether a set to which a step leads can stay: one of few spans, or one that the walk needs, while spans are to spare. What a text leads to
+// Whether a set to which an instruction leads can stay: one of few spans, or one that the walk needs, while spans are to spare. What a text leads to
 // it does not need.
-fn fits(step: &Step, count: usize, spare: &mut usize) -> bool {
+fn fits(instruction: &Instruction, count: usize, spare: &mut usize) -> bool {
     if count <= FEW {
         return true;
     }
-    if let Step::Text(_) = step {
+    if let Instruction::Text(_) = instruction {
         return false;
     }
     let fits = count <= *spare;
@@ -63,8 +67,8 @@ fn fits(step: &Step, count: usize, spare: &mut usize) -> bool {
 fn let_go(sets: &mut Vec<Option<Vec<PlaceSpan>>>, stays: &[bool], number: usize)
     requires stays { number < length stays.now }
     requires within { number < length sets.old.items }
-    ensures sets { (tokens : List TokenValue) (steps : List Step)
-        → AreSuffixSets tokens steps sets.old.items → AreSuffixSets tokens steps sets.new.items }
+    ensures sets { (tokens : List TokenValue) (instructions : List Instruction)
+        → AreSuffixSets tokens instructions sets.old.items → AreSuffixSets tokens instructions sets.new.items }
     ensures count { length sets.new.items ≡ length sets.old.items }
 {
     if number == 0 || stays[number] {
@@ -74,15 +78,19 @@ fn let_go(sets: &mut Vec<Option<Vec<PlaceSpan>>>, stays: &[bool], number: usize)
 }
 
 // For each set, whether it is the first of a block, or an optional part as long as a block leads to it when it is left out.
-fn needed_sets(alloc: Global, steps: &[Step], block: usize) -> Result<Vec<bool>, AllocError>
+fn needed_sets(
+    alloc: Global,
+    instructions: &[Instruction],
+    block: usize,
+) -> Result<Vec<bool>, AllocError>
     requires { 0 < block }
-    ensures { IfOk result (λ needed. length needed.items ≡ length steps.now + 1) }
+    ensures { IfOk result (λ needed. length needed.items ≡ length instructions.now + 1) }
 {
     let mut needed = Vec::new(alloc);
-    needed.resize(steps.len() + 1, false)?;
-    for number in 1..steps.len() {
+    needed.resize(instructions.len() + 1, false)?;
+    for number in 1..instructions.len() {
         needed[number] |= number % block == 0;
-        if let Step::Optional(size) = &steps[steps.len() - number] {
+        if let Instruction::Optional(size) = &instructions[instructions.len() - number] {
             needed[(number - 1).saturating_sub(*size)] |= *size >= block;
         }
     }

@@ -2,12 +2,12 @@
 #![tactic(auto)]
 
 mod cut;
+mod instructions;
 mod keep;
 pub mod laws;
 mod letters;
 mod search;
 mod sets;
-mod steps;
 mod values;
 mod variable;
 

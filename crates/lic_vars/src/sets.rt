@@ -1,4 +1,4 @@
-//! The places from which the last steps of a template can finish.
+//! The places from which the last instructions of a template can finish.
 
 ghost use Rattle.std.specs.Prelude.{◌≡◌, ◌↔◌, ◌+◌, ◌-◌, ◌<◌, ◌≤◌, All, IfOk, IsTrue, OnOk, Vec, length, ℕ};
 ghost use Rattle.std.specs.Global.{Global};
@@ -6,21 +6,21 @@ ghost use Rattle.lic_spans.specs.declared.span.PlaceSpan.{PlaceSpan};
 ghost use Rattle.lic_vars.specs.Cuts.{AreFinishing, IsPiece, last_moves};
 ghost use Rattle.lic_vars.specs.Sets.{AreSuffixSets, HasOther, IsOther, IsSet, IsStart, IsThere};
 
-use crate::steps::Step;
+use crate::instructions::Instruction;
 use crate::variable::over_pattern;
 use lic_reverse::{either, over_text};
 use lic_spans::{PlaceSpan, SpanKind};
 use lic_view::{View, tokens_have_texts};
 use std::alloc::{AllocError, Global};
 
-/// The set of no step: the end of the last token.
+/// The set of no instruction: the end of the last token.
 pub fn end_alone(
     alloc: Global,
     view: &View<'_>,
-    steps: &[Step],
+    instructions: &[Instruction],
 ) -> Result<Vec<Option<Vec<PlaceSpan>>>, AllocError>
     requires { 0 < length view.now }
-    ensures sets { IfOk result (λ sets. AreSuffixSets view.now steps.now sets.items) }
+    ensures sets { IfOk result (λ sets. AreSuffixSets view.now instructions.now sets.items) }
     ensures count { IfOk result (λ sets. length sets.items ≡ 1) }
 {
     tokens_have_texts(view);
@@ -60,25 +60,25 @@ fn is_there(sets: &[Option<Vec<PlaceSpan>>], number: usize) -> bool
     }
 }
 
-/// Makes the set of a number of last steps, and those between it and the last one that is there, unless it is there.
+/// Makes the set of a number of last instructions, and those between it and the last one that is there, unless it is there.
 pub fn fill(
     alloc: Global,
     view: &View<'_>,
-    steps: &[Step],
+    instructions: &[Instruction],
     sets: &mut Vec<Option<Vec<PlaceSpan>>>,
     number: usize,
 ) -> Result<(), AllocError>
-    requires pieces { All IsPiece steps.now }
-    requires sets { AreSuffixSets view.now steps.now sets.old.items }
-    requires within { number ≤ length steps.now }
+    requires pieces { All IsPiece instructions.now }
+    requires sets { AreSuffixSets view.now instructions.now sets.old.items }
+    requires within { number ≤ length instructions.now }
     requires enough { number < length sets.old.items }
-    ensures sets { OnOk result (AreSuffixSets view.now steps.now sets.new.items) }
+    ensures sets { OnOk result (AreSuffixSets view.now instructions.now sets.new.items) }
     ensures there { OnOk result (IsThere sets.new.items number) }
     ensures count { OnOk result (length sets.new.items ≡ length sets.old.items) }
 {
-    let start = start_of(view, steps, sets, number);
+    let start = start_of(view, instructions, sets, number);
     for before in start..number {
-        let mut set = set_before(alloc, view, steps, sets, before + 1)?;
+        let mut set = set_before(alloc, view, instructions, sets, before + 1)?;
         // the memory of spans that came together is not kept
         set.shrink_to_fit();
         sets[before + 1] = Some(set);
@@ -89,33 +89,37 @@ pub fn fill(
 // From which set all up to one can be made.
 fn start_of(
     view: &View<'_>,
-    steps: &[Step],
+    instructions: &[Instruction],
     sets: &[Option<Vec<PlaceSpan>>],
     number: usize,
 ) -> usize
-    requires sets { AreSuffixSets view.now steps.now sets.now }
-    requires within { number ≤ length steps.now }
+    requires sets { AreSuffixSets view.now instructions.now sets.now }
+    requires within { number ≤ length instructions.now }
     requires enough { number < length sets.now }
-    ensures { IsStart steps.now sets.now number result }
+    ensures { IsStart instructions.now sets.now number result }
 {
     let mut low = number;
     let mut needed = number;
     while needed < low || !is_there(sets, low) {
-        needed = needed.min(missing_for(steps, sets, low));
+        needed = needed.min(missing_for(instructions, sets, low));
         low -= 1;
     }
     low
 }
 
-// The set that a step leads to when it is left out, where it is not there, else the step's own number.
-fn missing_for(steps: &[Step], sets: &[Option<Vec<PlaceSpan>>], number: usize) -> usize
+// The set that an instruction leads to when it is left out, where it is not there, else the instruction's own number.
+fn missing_for(
+    instructions: &[Instruction],
+    sets: &[Option<Vec<PlaceSpan>>],
+    number: usize,
+) -> usize
     requires some { 0 < number }
-    requires within { number ≤ length steps.now }
+    requires within { number ≤ length instructions.now }
     requires enough { number < length sets.now }
-    ensures { (other : ℕ) → IsOther steps.now number other → HasOther sets.now result other }
+    ensures { (other : ℕ) → IsOther instructions.now number other → HasOther sets.now result other }
 {
-    match &steps[steps.len() - number] {
-        Step::Optional(size) => {
+    match &instructions[instructions.len() - number] {
+        Instruction::Optional(size) => {
             let other = (number - 1).saturating_sub(*size);
             if is_there(sets, other) { number } else { other }
         }
@@ -123,31 +127,31 @@ fn missing_for(steps: &[Step], sets: &[Option<Vec<PlaceSpan>>], number: usize) -
     }
 }
 
-// The places from which a number of last steps lead to the end.
+// The places from which a number of last instructions lead to the end.
 fn set_before(
     alloc: Global,
     view: &View<'_>,
-    steps: &[Step],
+    instructions: &[Instruction],
     sets: &[Option<Vec<PlaceSpan>>],
     number: usize,
 ) -> Result<Vec<PlaceSpan>, AllocError>
-    requires pieces { All IsPiece steps.now }
-    requires sets { AreSuffixSets view.now steps.now sets.now }
+    requires pieces { All IsPiece instructions.now }
+    requires sets { AreSuffixSets view.now instructions.now sets.now }
     requires some { 0 < number }
-    requires within { number ≤ length steps.now }
+    requires within { number ≤ length instructions.now }
     requires rest { IsThere sets.now (number - 1) }
-    requires others { (other : ℕ) → IsOther steps.now number other → IsThere sets.now other }
-    ensures { IfOk result (λ spans. AreFinishing view.now (last_moves steps.now number) spans.items) }
+    requires others { (other : ℕ) → IsOther instructions.now number other → IsThere sets.now other }
+    ensures { IfOk result (λ spans. AreFinishing view.now (last_moves instructions.now number) spans.items) }
 {
     tokens_have_texts(view);
     let rest = set_of(sets, number - 1);
-    match &steps[steps.len() - number] {
-        Step::Text(text) => over_text(alloc, view, text, Vec::from_slice(alloc, rest)?),
-        Step::Variable { ere, is_empty, .. } => {
+    match &instructions[instructions.len() - number] {
+        Instruction::Text(text) => over_text(alloc, view, text, Vec::from_slice(alloc, rest)?),
+        Instruction::Variable { ere, is_empty, .. } => {
             let ends = Vec::from_slice(alloc, rest)?;
             over_pattern(alloc, view, ere, *is_empty, ends)
         }
-        Step::Optional(size) => {
+        Instruction::Optional(size) => {
             let others = set_of(sets, (number - 1).saturating_sub(*size));
             either(alloc, view, rest, others)
         }

@@ -6,9 +6,9 @@ ghost use Rattle.lic_vars.specs.Values.{AreValues};
 ghost use Rattle.lic_vars.specs.Cuts.{HasNoValue};
 ghost use Rattle.lic_vars.specs.Views.{value_of};
 
+use crate::instructions::{Instruction, instructions_of};
 use crate::letters::letter_spans;
 use crate::search::least_values;
-use crate::steps::{Step, steps_of};
 use lic_markup::laws::texts_are_those_of_pieces;
 use lic_norm::{Span, Text};
 use lic_set::{Set, Triple};
@@ -26,19 +26,19 @@ pub struct Value<'s> {
     pub span: Option<Span>,
 }
 
-/// A template of a set, compiled for the values of its matches: its texts and patterns become steps in a row, once for all matches.
+/// A template of a set, compiled for the values of its matches: its texts and patterns become instructions in a row, once for all matches.
 #[derive(Debug, Drop)]
 pub struct Assigner<'s> {
-    // whose steps they are
+    // whose instructions they are
     set: &'s Set,
     template: usize,
-    steps: Vec<Step<'s>>,
+    instructions: Vec<Instruction<'s>>,
 }
 
 impl<'s> Model for Assigner<'s> {
     ghost use Rattle.std.specs.Coded.{codes};
     ghost use Rattle.lic_markup.specs.contracts.part.Part as e;
-    ghost use Rattle.lic_vars.specs.Assigners.{AssignerValue, AreStepsOf};
+    ghost use Rattle.lic_vars.specs.Assigners.{AssignerValue, AreInstructionsOf};
 
     ghost Value = { AssignerValue };
 
@@ -46,7 +46,7 @@ impl<'s> Model for Assigner<'s> {
 
     ghost view = { λ a. record { set = a.set.now; template = a.template } };
 
-    ghost invariant = { λ a. AreStepsOf a.set.now a.template a.steps.items };
+    ghost invariant = { λ a. AreInstructionsOf a.set.now a.template a.instructions.items };
 }
 
 impl<'s> Assigner<'s> {
@@ -58,11 +58,11 @@ impl<'s> Assigner<'s> {
     {
         let parsed = set.template(template);
         texts_are_those_of_pieces(parsed);
-        let steps = steps_of(alloc, parsed.parts())?;
+        let instructions = instructions_of(alloc, parsed.parts())?;
         Ok(Assigner {
             set,
             template,
-            steps,
+            instructions,
         })
     }
 
@@ -84,14 +84,14 @@ impl<'s> Assigner<'s> {
         ensures { IfOk result (λ values.
             AreValues self.now.set text.now.tokens triple (map value_of values.items)) }
     {
-        if !has_variable(&self.steps) {
+        if !has_variable(&self.instructions) {
             return Ok(Vec::new(alloc));
         }
         let letters = letter_spans(alloc, text, triple.first, triple.last)?;
         let _length = text.len();
         let view = View::of(text.tokens(), triple.first, triple.last - triple.first + 1);
         tokens_have_texts(&view);
-        least_values(alloc, &view, &self.steps, &letters)
+        least_values(alloc, &view, &self.instructions, &letters)
     }
 }
 
@@ -114,12 +114,12 @@ pub fn assign<'s>(
     assigner.assign(alloc, text, triple)
 }
 
-// Whether some step is a variable.
-fn has_variable(steps: &[Step<'_>]) -> bool
-    ensures { result ≡ false → All HasNoValue steps.now }
+// Whether some instruction is a variable.
+fn has_variable(instructions: &[Instruction<'_>]) -> bool
+    ensures { result ≡ false → All HasNoValue instructions.now }
 {
-    for step in steps {
-        if let Step::Variable { .. } = step {
+    for instruction in instructions {
+        if let Instruction::Variable { .. } = instruction {
             return true;
         }
     }

@@ -1,4 +1,4 @@
-//! The first flag that is set, from a place on.
+//! The first flag that is set, from an offset on.
 ghost use Rattle.std.specs.Prelude.{◌≡◌, ℕ, ◌≤◌, ◌<◌, true, false, length, IfSome, IfNone};
 ghost use Rattle.lic_columns.specs.Masks.{flag_at};
 
@@ -6,7 +6,7 @@ use crate::block::SIZE;
 use crate::flags::Flags;
 use crate::mask::below;
 
-/// The first flag that is set, from this place on.
+/// The first flag that is set, from this offset on.
 #[inline]
 pub fn first_set(flags: &Flags, from: usize) -> Option<usize>
     requires { from ≤ length flags.now }

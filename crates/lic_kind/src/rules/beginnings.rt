@@ -1,12 +1,12 @@
 //! Prefilters of lines: which two characters the texts of line rules begin with, on the way from a side of a line.
 ghost use Rattle.std.specs.Prelude.{◌≡◌, ◌<◌, ℕ, List, reverse, true, false, length, slice_index, IfSome};
-ghost use Rattle.lic_kind.specs.Beginnings.{AreEndsKnown, AreFrontsKnown, Grows, IsKnown, bit_of, has_bit, may_begin, place_of};
+ghost use Rattle.lic_kind.specs.Beginnings.{AreEndsKnown, AreFrontsKnown, Grows, IsKnown, bit_of, has_bit, may_begin, slot_of};
 ghost use Rattle.lic_kind.specs.TextLists.{texts_of};
 
 use crate::texts::Texts;
 
-/// How many places a table has. All characters from the last one on share it.
-const PLACES: usize = 256;
+/// How many slots a table has. All characters from the last one on share it.
+const SLOTS: usize = 256;
 
 /// The highest bit of a mask. All texts from this number on share it.
 const HIGHEST: usize = 63;
@@ -15,19 +15,19 @@ const HIGHEST: usize = 63;
 #[derive(Drop)]
 pub(crate) struct Beginnings {
     /// The texts that begin with a character.
-    firsts: [u64; PLACES],
+    firsts: [u64; SLOTS],
     /// Those that have it second.
-    seconds: [u64; PLACES],
+    seconds: [u64; SLOTS],
     /// Those that have no second one.
     alone: u64,
 }
 
-/// The place of a character.
+/// The slot of a character.
 #[inline(always)]
-fn place(c: char) -> usize
-    ensures { result ≡ place_of c }
+fn slot(c: char) -> usize
+    ensures { result ≡ slot_of c }
 {
-    (c as usize).min(PLACES - 1)
+    (c as usize).min(SLOTS - 1)
 }
 
 /// A mask with the bit of text i of a kind whose texts have the bits from this one on.
@@ -41,8 +41,8 @@ fn bit(from: usize, i: usize) -> u64
 impl Beginnings {
     pub(crate) fn none() -> Beginnings {
         Beginnings {
-            firsts: [0; PLACES],
-            seconds: [0; PLACES],
+            firsts: [0; SLOTS],
+            seconds: [0; SLOTS],
             alone: 0,
         }
     }
@@ -51,7 +51,7 @@ impl Beginnings {
     fn open(&mut self)
         ensures { (k : ℕ) (text : List ℕ) → k < 64 → IsKnown self.new k text }
     {
-        self.firsts = [u64::MAX; PLACES];
+        self.firsts = [u64::MAX; SLOTS];
         self.alone = u64::MAX;
     }
 
@@ -66,13 +66,13 @@ impl Beginnings {
             self.open();
             return;
         }
-        let at = place(first);
+        let at = slot(first);
         self.firsts[at] |= bit;
         if size < 2 {
             self.alone |= bit;
             return;
         }
-        let next = place(second);
+        let next = slot(second);
         self.seconds[next] |= bit;
     }
 
@@ -131,8 +131,8 @@ impl Beginnings {
             → has_bit mask k ≡ true) }
         ensures own { IfSome result (λ mask. has_bit mask 63 ≡ false) }
     {
-        let firsts = self.firsts[place(first)];
-        let seconds = self.seconds[place(second)];
+        let firsts = self.firsts[slot(first)];
+        let seconds = self.seconds[slot(second)];
         let mask = firsts & (seconds | self.alone);
         if mask >> HIGHEST != 0 {
             return None;

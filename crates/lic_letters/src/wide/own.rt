@@ -7,7 +7,7 @@ ghost use Rattle.lic_trim.specs.PieceLengths.{has_bit};
 
 use std::simd::prelude::*;
 
-/// The places that are looked at together.
+/// The offsets that are looked at together.
 const AT_ONCE: usize = 16;
 
 /// The most bytes of a letter.
@@ -49,7 +49,7 @@ const THREE_SECOND_LOW: [u8; AT_ONCE] = [
 
 const THREE_SECOND_HIGH: [u8; AT_ONCE] = [0, 0, 0, 0, 0, 0, 0, 0, 85, 22, 38, 46, 0, 0, 0, 0];
 
-/// 16 bytes from a place on.
+/// 16 bytes from an offset on.
 #[inline(always)]
 fn load(bytes: &[u8], at: usize) -> u8x16
     requires { at + 16 ≤ length bytes.now }
@@ -68,27 +68,27 @@ fn classes(low: [u8; AT_ONCE], high: [u8; AT_ONCE], bytes: u8x16) -> u8x16
     by_low & by_high
 }
 
-/// At which places both have a class.
+/// At which offsets both have a class.
 #[inline(always)]
-fn common_places(one: u8x16, other: u8x16) -> u64
+fn common_offsets(one: u8x16, other: u8x16) -> u64
     ensures bits { (i : ℕ) → i < 16 → has_bit result i ≡ are_common (slice_index one i) (slice_index other i) }
     ensures above { (i : ℕ) → 16 ≤ i → has_bit result i ≡ false }
 {
     (one & other).simd_ne(u8x16::splat(0)).to_bitmask()
 }
 
-/// At which places a byte of ASCII is.
+/// At which offsets a byte of ASCII is.
 #[inline(always)]
-fn ascii_places(bytes: u8x16) -> u64
+fn ascii_offsets(bytes: u8x16) -> u64
     ensures bits { (i : ℕ) → i < 16 → has_bit result i ≡ nat_lt (slice_index bytes i) 128 }
     ensures above { (i : ℕ) → 16 ≤ i → has_bit result i ≡ false }
 {
     bytes.simd_lt(u8x16::splat(0x80)).to_bitmask()
 }
 
-/// At which places a byte continues a character.
+/// At which offsets a byte continues a character.
 #[inline(always)]
-fn places_on(bytes: u8x16) -> u64
+fn offsets_on(bytes: u8x16) -> u64
     ensures { (i : ℕ) → i < 16 → has_bit result i ≡ continues (slice_index bytes i) }
 {
     (bytes - u8x16::splat(0x80))
@@ -96,13 +96,13 @@ fn places_on(bytes: u8x16) -> u64
         .to_bitmask()
 }
 
-/// At which places a letter of two bytes begins that stays as it is, as far as the tables know.
+/// At which offsets a letter of two bytes begins that stays as it is, as far as the tables know.
 #[inline(always)]
-fn two_places(first: u8x16, second: u8x16) -> u64
+fn two_offsets(first: u8x16, second: u8x16) -> u64
     ensures bits { (i : ℕ) → i < 16 → has_bit result i ≡ begins_two (slice_index first i) (slice_index second i) }
     ensures above { (i : ℕ) → 16 ≤ i → has_bit result i ≡ false }
 {
-    common_places(
+    common_offsets(
         classes(TWO_FIRST_LOW, TWO_FIRST_HIGH, first),
         classes(TWO_SECOND_LOW, TWO_SECOND_HIGH, second),
     )
@@ -110,17 +110,17 @@ fn two_places(first: u8x16, second: u8x16) -> u64
 
 /// The same of letters of three bytes, by the first two of them.
 #[inline(always)]
-fn three_places(first: u8x16, second: u8x16) -> u64
+fn three_offsets(first: u8x16, second: u8x16) -> u64
     ensures bits { (i : ℕ) → i < 16 → has_bit result i ≡ begins_three (slice_index first i) (slice_index second i) }
     ensures above { (i : ℕ) → 16 ≤ i → has_bit result i ≡ false }
 {
-    common_places(
+    common_offsets(
         classes(THREE_FIRST_LOW, THREE_FIRST_HIGH, first),
         classes(THREE_SECOND_LOW, THREE_SECOND_HIGH, second),
     )
 }
 
-/// The lowest place at which no bit is set.
+/// The lowest offset at which no bit is set.
 #[inline(always)]
 fn first_zero(mask: u64) -> usize
     requires { has_bit mask 63 ≡ false }
@@ -139,8 +139,8 @@ fn two_front(bytes: &[u8]) -> usize
     ensures few { result ≤ 64 }
 {
     let first = load(bytes, 0);
-    let begins = two_places(first, load(bytes, 1));
-    let known = ascii_places(first) | begins | begins << 1;
+    let begins = two_offsets(first, load(bytes, 1));
+    let known = ascii_offsets(first) | begins | begins << 1;
     first_zero(known)
 }
 
@@ -152,15 +152,15 @@ fn three_front(bytes: &[u8]) -> usize
     ensures few { result ≤ 64 }
 {
     let first = load(bytes, 0);
-    let begins = three_places(first, load(bytes, 1)) & places_on(load(bytes, 2));
+    let begins = three_offsets(first, load(bytes, 1)) & offsets_on(load(bytes, 2));
     let seconds = begins << 1;
-    let known = ascii_places(first) | begins | seconds | seconds << 1;
+    let known = ascii_offsets(first) | begins | seconds | seconds << 1;
     first_zero(known)
 }
 
-/// At which of 16 places a byte beyond ASCII is.
+/// At which of 16 offsets a byte beyond ASCII is.
 #[inline(always)]
-fn high_places(lanes: u8x16) -> u64
+fn high_offsets(lanes: u8x16) -> u64
     ensures { result ≡ mask_l (map (λ b. nat_le 128 b) lanes) }
 {
     lanes.simd_ge(u8x16::splat(0x80)).to_bitmask()
@@ -172,7 +172,7 @@ fn begins_with_ascii(bytes: &[u8]) -> bool
     requires { 16 ≤ length bytes.now }
     ensures { IsTrue result → AreOwn bytes.now 16 }
 {
-    high_places(u8x16::from_slice(bytes)) == 0
+    high_offsets(u8x16::from_slice(bytes)) == 0
 }
 
 /// How many bytes stay as they are at the start of these, of the first 18, as far as lanes show it.

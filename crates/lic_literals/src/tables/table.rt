@@ -5,9 +5,9 @@ ghost use Rattle.memchr.specs.Find.{OccursAt};
 ghost use Rattle.lic_literals.specs.Hashes.{hash_of};
 ghost use Rattle.lic_literals.specs.Sizes.{AreSizes, gram_at};
 
-use crate::grams::{hash, mark_of, start_mark_of};
+use crate::flags::Flags;
+use crate::grams::{flag_of, hash, start_flag_of};
 use crate::hits::Hits;
-use crate::marks::Marks;
 use std::alloc::{AllocError, Global};
 use std::collections::HashMap;
 
@@ -16,15 +16,15 @@ use std::collections::HashMap;
 /// Every `STEP`-th offset of the bytes is looked at: wherever a window is, one of its first `STEP` grams begins there.
 #[derive(Drop)]
 pub struct Table<const LENGTH: usize, const GRAM: usize, const STEP: usize> {
-    // the marks of the first grams of the windows
-    grams: Marks,
-    // the marks of these grams together with where they begin in their windows
-    starts: Marks,
+    // the flags of the first grams of the windows
+    grams: Flags,
+    // the flags of these grams together with where they begin in their windows
+    starts: Flags,
     numbers: HashMap<[u8; LENGTH], usize>,
 }
 
 impl<const LENGTH: usize, const GRAM: usize, const STEP: usize> Table<LENGTH, GRAM, STEP> {
-    ghost use Rattle.lic_literals.specs.Tables.{AddsWindow, HasNone, MarksWindow, NotesWhere, number_of};
+    ghost use Rattle.lic_literals.specs.Tables.{AddsWindow, HasNone, FlagsWindow, NotesWhere, number_of};
 
     /// A table without windows.
     pub fn new(alloc: Global) -> Result<Table<LENGTH, GRAM, STEP>, AllocError>
@@ -32,8 +32,8 @@ impl<const LENGTH: usize, const GRAM: usize, const STEP: usize> Table<LENGTH, GR
         ensures { IfOk result (λ table. HasNone table) }
     {
         Ok(Table {
-            grams: Marks::new(alloc)?,
-            starts: Marks::new(alloc)?,
+            grams: Flags::new(alloc)?,
+            starts: Flags::new(alloc)?,
             numbers: HashMap::new(alloc),
         })
     }
@@ -43,7 +43,7 @@ impl<const LENGTH: usize, const GRAM: usize, const STEP: usize> Table<LENGTH, GR
         requires { AreSizes LENGTH GRAM STEP }
         ensures { IfOk result (λ answer. AddsWindow window.now number answer self.old self.new) }
     {
-        self.mark(window);
+        self.flag(window);
         if let Some(known) = self.numbers.get(window).copied() {
             return Ok(known);
         }
@@ -51,16 +51,16 @@ impl<const LENGTH: usize, const GRAM: usize, const STEP: usize> Table<LENGTH, GR
         Ok(number)
     }
 
-    // Marks the first grams of a window.
-    fn mark(&mut self, window: &[u8])
+    // Flags the first grams of a window.
+    fn flag(&mut self, window: &[u8])
         requires sizes { AreSizes LENGTH GRAM STEP }
         requires length { length window.now ≡ LENGTH }
-        ensures { MarksWindow window.now self.old self.new }
+        ensures { FlagsWindow window.now self.old self.new }
     {
         for start in 0..STEP {
             let hash = hash(&window[start..start + GRAM]);
-            self.grams.add(mark_of(hash));
-            self.starts.add(start_mark_of(hash, start));
+            self.grams.add(flag_of(hash));
+            self.starts.add(start_flag_of(hash, start));
         }
     }
 
@@ -75,7 +75,7 @@ impl<const LENGTH: usize, const GRAM: usize, const STEP: usize> Table<LENGTH, GR
         let mut offset = 0;
         while offset + GRAM <= bytes.len() {
             let hash = hash(&bytes[offset..offset + GRAM]);
-            if self.grams.has(mark_of(hash)) {
+            if self.grams.has(flag_of(hash)) {
                 self.note_around(bytes, offset, hash, hits)?;
             }
             offset += STEP;
@@ -100,7 +100,7 @@ impl<const LENGTH: usize, const GRAM: usize, const STEP: usize> Table<LENGTH, GR
     {
         for back in 0..STEP {
             let start = STEP - 1 - back;
-            if start <= offset && self.starts.has(start_mark_of(hash, start)) {
+            if start <= offset && self.starts.has(start_flag_of(hash, start)) {
                 self.note_at(bytes, offset - start, hits)?;
             }
         }

@@ -101,14 +101,14 @@ fn push_bytes(characters: &mut Vec<SourceChar>, at: u32, bytes: &[u8]) -> Result
     ensures { OnOk result (characters.new.items
         ≡ characters.old.items ++ without_dropped (source_of at bytes.now)) }
 {
-    let mut place = 0;
-    while place < bytes.len() {
-        place += push_front(characters, at + place as u32, &bytes[place..])?;
+    let mut offset = 0;
+    while offset < bytes.len() {
+        offset += push_front(characters, at + offset as u32, &bytes[offset..])?;
     }
     Ok(())
 }
 
-/// Puts the source characters of bytes that begin at this byte of the input, without the dropped ones, in the place of
+/// Puts the source characters of bytes that begin at this byte of the input, without the dropped ones, in place of
 /// those that are there.
 pub(crate) fn read_characters(
     characters: &mut Vec<SourceChar>,

@@ -14,7 +14,7 @@ ghost use Rattle.lic_norm.specs.Tokens.{first_tokens_of, line_tokens_of};
 use crate::reader::characters::read_characters;
 use lic_columns::Lines;
 use lic_lines::{Rules, left_of_line};
-use lic_rewriting::{Batch, PartBuffers, Rewriting, Stretch};
+use lic_rewriting::{Batch, PartBuffers, Rewriting, Section};
 use lic_trim::{LinePart, SourceChar, cut_line};
 use std::alloc::{AllocError, Global};
 use std::fmt;
@@ -176,10 +176,10 @@ pub fn take_ascii(
     let lines = &mut buffers.lines;
     lines.read(alloc, rules, at, text)?;
     let batch = batch_of(&mut buffers.batches)?;
-    let stretch = Stretch::of(at, lines);
-    let count = stretch.len();
+    let section = Section::of(at, lines);
+    let count = section.len();
     if text.len() <= MAX_KEPT {
-        rewriting.take_stretch(alloc, &stretch, batch)?;
+        rewriting.take_section(alloc, &section, batch)?;
         return Ok(count);
     }
     rewriting.take_lines(alloc, at, lines, batch)?;
@@ -211,7 +211,7 @@ pub(crate) fn take_front(
     if end == 0 {
         return Ok(0);
     }
-    let stretch = Stretch::of(at, lines);
-    rewriting.take_stretch(alloc, &stretch, batch_of(&mut buffers.batches)?)?;
+    let section = Section::of(at, lines);
+    rewriting.take_section(alloc, &section, batch_of(&mut buffers.batches)?)?;
     Ok(end)
 }

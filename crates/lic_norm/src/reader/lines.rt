@@ -19,7 +19,7 @@ pub fn line_end(bytes: &[u8]) -> usize
     ensures some { 0 < length bytes.now → 0 < result }
 {
     match memchr(b'\n', bytes) {
-        Some(place) => place + 1,
+        Some(offset) => offset + 1,
         None => bytes.len(),
     }
 }
@@ -57,7 +57,7 @@ pub fn lines_end(bytes: &[u8]) -> usize
 {
     let front = ascii_prefix(&bytes[..MAX_TOGETHER.min(bytes.len())]);
     match memrchr(b'\n', &bytes[..front]) {
-        Some(place) => place + 1,
+        Some(offset) => offset + 1,
         None => line_end(bytes),
     }
 }

@@ -59,7 +59,7 @@ fn end_of(token: FirstToken) -> u32
 }
 
 /// Drops `count` tokens from the start, and gives where the last of them ends: if there is
-/// none, the given place.
+/// none, the given index.
 fn drop_front(waiting: &mut VecDeque<FirstToken>, count: usize, mut end: u32) -> u32
     requires { count ≤ deque_len waiting.old }
     ensures left { waiting.new.items ≡ drop count waiting.old.items }

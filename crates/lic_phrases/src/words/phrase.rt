@@ -70,15 +70,15 @@ pub(crate) fn is_skipped(line: &str) -> bool
     }
 }
 
-/// Whether a blank precedes the text at this place.
-fn is_parted_at(texts: &[String], place: usize) -> bool
-    requires { place < length texts.now }
-    ensures { result ≡ is_parted_at (texts_in texts.now) place }
+/// Whether a blank precedes the text at this index.
+fn is_parted_at(texts: &[String], index: usize) -> bool
+    requires { index < length texts.now }
+    ensures { result ≡ is_parted_at (texts_in texts.now) index }
 {
-    if place == 0 {
+    if index == 0 {
         return false;
     }
-    ends_in_word(texts[place - 1].as_str()) && begins_in_word(texts[place].as_str())
+    ends_in_word(texts[index - 1].as_str()) && begins_in_word(texts[index].as_str())
 }
 
 /// The texts of tokens in canonical spelling: one blank between two letters of kind Word that
@@ -87,11 +87,11 @@ fn spelling(alloc: Global, texts: &[String]) -> Result<String, AllocError>
     ensures { IfOk result (λ s. string_bytes s ≡ spelled (texts_in texts.now)) }
 {
     let mut spelling = String::new(alloc);
-    for place in 0..texts.len() {
-        if is_parted_at(texts, place) {
+    for index in 0..texts.len() {
+        if is_parted_at(texts, index) {
             spelling.push(' ')?;
         }
-        spelling.push_str(texts[place].as_str())?;
+        spelling.push_str(texts[index].as_str())?;
     }
     Ok(spelling)
 }

@@ -9,10 +9,10 @@ ghost use Rattle.lic_phrases.specs.Spelling.{blank_if, spelled};
 ghost use Rattle.lic_rewriting.specs.Batches.{AreInBatch};
 ghost use Rattle.lic_tokens.specs.Places.{texts_of};
 ghost use Rattle.lic_tokens.specs.Tokens.{HaveTexts};
-ghost use Rattle.lic_rewriting.specs.Stretches.{begins_sign, may_begin_sign};
+ghost use Rattle.lic_rewriting.specs.Sections.{begins_sign, may_begin_sign};
 
 use crate::rewriting::Rewriting;
-use crate::stretch::{COPIED, Stretch};
+use crate::section::{COPIED, Section};
 use crate::word_bytes::is_word_byte;
 use lic_phrases::{Phrases, Rewriter};
 use lic_tokens::SourceBytes;
@@ -45,8 +45,8 @@ pub struct Batch {
 pub(crate) struct Spelled {
     /// How many tokens.
     pub(crate) count: usize,
-    /// The place after their bytes.
-    pub(crate) place: usize,
+    /// The offset after their bytes.
+    pub(crate) offset: usize,
     /// Whether a word ends there.
     pub(crate) after_word: bool,
 }
@@ -63,42 +63,42 @@ impl Batch {
     }
 }
 
-/// Copies 16 or 32 letters to a place, by registers: a copy of any length would ask first whether it reads what it writes.
+/// Copies 16 or 32 letters to an offset, by registers: a copy of any length would ask first whether it reads what it writes.
 #[inline(always)]
-fn copy_letters(bytes: &mut [u8], place: usize, letters: &[u8], wide: usize)
+fn copy_letters(bytes: &mut [u8], offset: usize, letters: &[u8], wide: usize)
     requires lanes { (wide ≡ COPIED) ⊎ (wide ≡ MOST) }
-    requires fits { place + wide ≤ length bytes.old }
+    requires fits { offset + wide ≤ length bytes.old }
     requires long { wide ≤ length letters.now }
     ensures long { length bytes.new ≡ length bytes.old }
-    ensures copied { take (place + wide) bytes.new ≡ take place bytes.old ++ take wide letters.now }
+    ensures copied { take (offset + wide) bytes.new ≡ take offset bytes.old ++ take wide letters.now }
 {
     if wide == COPIED {
-        u8x16::from_slice(letters).copy_to_slice(&mut bytes[place..]);
+        u8x16::from_slice(letters).copy_to_slice(&mut bytes[offset..]);
     } else {
-        u8x32::from_slice(letters).copy_to_slice(&mut bytes[place..]);
+        u8x32::from_slice(letters).copy_to_slice(&mut bytes[offset..]);
     }
 }
 
-/// Writes a text of `len` letters, with which these begin, after a blank or not: gives the place after it. The blank and `wide`
+/// Writes a text of `len` letters, with which these begin, after a blank or not: gives the offset after it. The blank and `wide`
 /// letters are written in any case, and what is too much is written over: so nothing depends on the length.
 #[inline(always)]
 fn put(
     bytes: &mut [u8; BYTES],
-    place: usize,
+    offset: usize,
     blank: bool,
     letters: &[u8],
     len: usize,
     wide: usize,
 ) -> usize
     requires lanes { (wide ≡ COPIED) ⊎ (wide ≡ MOST) }
-    requires fits { place + (wide + 1) ≤ BYTES }
+    requires fits { offset + (wide + 1) ≤ BYTES }
     requires long { wide ≤ length letters.now }
     requires short { len ≤ wide }
-    ensures place { result ≡ place + (length (blank_if blank) + len) }
-    ensures bytes { take result bytes.new ≡ take place bytes.old ++ (blank_if blank ++ take len letters.now) }
+    ensures offset { result ≡ offset + (length (blank_if blank) + len) }
+    ensures bytes { take result bytes.new ≡ take offset bytes.old ++ (blank_if blank ++ take len letters.now) }
 {
-    bytes[place] = b' ';
-    let start = place + usize::from(blank);
+    bytes[offset] = b' ';
+    let start = offset + usize::from(blank);
     copy_letters(bytes, start, letters, wide);
     start + len
 }
@@ -114,18 +114,18 @@ pub(crate) fn is_word_at(text: &[u8], i: usize) -> bool
 
 /// Whether a look or two into tables say that the token number `i`, which has these letters, is plain.
 #[inline(always)]
-fn is_plain_by_tables(phrases: &Phrases, stretch: &Stretch<'_>, i: usize, letters: &[u8]) -> bool
-    requires within { i < length stretch.now }
+fn is_plain_by_tables(phrases: &Phrases, section: &Section<'_>, i: usize, letters: &[u8]) -> bool
+    requires within { i < length section.now }
     requires some { 0 < length letters.now }
-    requires text { (d : _) → token_text letters.now ≡ (slice_index_or stretch.now i d).text }
+    requires text { (d : _) → token_text letters.now ≡ (slice_index_or section.now i d).text }
     ensures whole { IsTrue result → token_text letters.now ≡ letters.now }
-    ensures no_sign { IsTrue result → may_begin_sign (drop i stretch.now) ≡ false }
+    ensures no_sign { IsTrue result → may_begin_sign (drop i section.now) ≡ false }
     ensures left { IsTrue result → IsLeft phrases.now.phrases letters.now }
 {
     if Rewriter::leaves_plain(phrases, letters) {
         return true;
     }
-    if stretch.may_be_more(i, letters) {
+    if section.may_be_more(i, letters) {
         return false;
     }
     Rewriter::leaves_by_pair(phrases, letters)
@@ -134,33 +134,33 @@ fn is_plain_by_tables(phrases: &Phrases, stretch: &Stretch<'_>, i: usize, letter
 /// The text of the token number `i` of lines, if it is plain: no copyright sign begins there, and where the rewriter keeps
 /// none back, it leaves the token as it is.
 #[inline(always)]
-pub(crate) fn plain_text<'a>(phrases: &Phrases, stretch: &Stretch<'a>, i: usize) -> Option<&'a [u8]>
-    requires { i < length stretch.now }
-    ensures text { IfSome result (λ text. (d : _) → text.now ≡ (slice_index_or stretch.now i d).text) }
+pub(crate) fn plain_text<'a>(phrases: &Phrases, section: &Section<'a>, i: usize) -> Option<&'a [u8]>
+    requires { i < length section.now }
+    ensures text { IfSome result (λ text. (d : _) → text.now ≡ (slice_index_or section.now i d).text) }
     ensures utf8 { IfSome result (λ text. IsUtf8 text.now) }
     ensures words { IfSome result (λ text. HasWords text.now) }
-    ensures no_sign { IfSome result (λ text. begins_sign (drop i stretch.now) ≡ false) }
+    ensures no_sign { IfSome result (λ text. begins_sign (drop i section.now) ≡ false) }
     ensures left { IfSome result (λ text. IsLeft phrases.now.phrases text.now) }
 {
-    let letters = stretch.letters_of(i);
-    if is_plain_by_tables(phrases, stretch, i, letters) {
+    let letters = section.letters_of(i);
+    if is_plain_by_tables(phrases, section, i, letters) {
         return Some(letters);
     }
-    plain_after_look(phrases, stretch, i)
+    plain_after_look(phrases, section, i)
 }
 
 /// The same by the text.
 #[inline(always)]
-fn plain_after_look<'a>(phrases: &Phrases, stretch: &Stretch<'a>, i: usize) -> Option<&'a [u8]>
-    requires { i < length stretch.now }
-    ensures text { IfSome result (λ text. (d : _) → text.now ≡ (slice_index_or stretch.now i d).text) }
+fn plain_after_look<'a>(phrases: &Phrases, section: &Section<'a>, i: usize) -> Option<&'a [u8]>
+    requires { i < length section.now }
+    ensures text { IfSome result (λ text. (d : _) → text.now ≡ (slice_index_or section.now i d).text) }
     ensures utf8 { IfSome result (λ text. IsUtf8 text.now) }
     ensures words { IfSome result (λ text. HasWords text.now) }
-    ensures no_sign { IfSome result (λ text. begins_sign (drop i stretch.now) ≡ false) }
+    ensures no_sign { IfSome result (λ text. begins_sign (drop i section.now) ≡ false) }
     ensures left { IfSome result (λ text. IsLeft phrases.now.phrases text.now) }
 {
-    let text = stretch.text(i);
-    if stretch.is_sign(i, text) || !Rewriter::leaves(phrases, text) {
+    let text = section.text(i);
+    if section.is_sign(i, text) || !Rewriter::leaves(phrases, text) {
         return None;
     }
     Some(text)
@@ -171,45 +171,45 @@ fn plain_after_look<'a>(phrases: &Phrases, stretch: &Stretch<'a>, i: usize) -> O
 #[inline(never)]
 pub(crate) fn spell(
     rewriting: &Rewriting<'_>,
-    stretch: &Stretch<'_>,
+    section: &Section<'_>,
     i: usize,
     batch: &mut Batch,
 ) -> Spelled
-    requires within { i ≤ length stretch.now }
+    requires within { i ≤ length section.now }
     requires none { rewriting.now.rewriter ≡ nothing_kept }
-    requires texts { HaveTexts stretch.now }
-    ensures within { i + result.count ≤ length stretch.now }
+    requires texts { HaveTexts section.now }
+    ensures within { i + result.count ≤ length section.now }
     ensures fits { i + result.count < 2 ^ 64 }
     ensures few { result.count ≤ TOKENS }
     ensures near { 0 < result.count → length (spelled (texts_of rewriting.now.tokens)) < 2 ^ 32 }
-    ensures held { AreInBatch stretch.now i rewriting.now batch.new result }
+    ensures held { AreInBatch section.now i rewriting.now batch.new result }
 {
     let before = rewriting.tokens.spelled().len();
-    let most = (stretch.len() - i).min(TOKENS);
+    let most = (section.len() - i).min(TOKENS);
     let mut state = Spelled {
         count: 0,
-        place: 0,
+        offset: 0,
         after_word: rewriting.tokens.after_word(),
     };
     if before > MAX_BEFORE {
         return state;
     }
     while state.count < most {
-        spell_plain(rewriting, stretch, i, most, before, &mut state, batch);
+        spell_plain(rewriting, section, i, most, before, &mut state, batch);
         if state.count >= most {
             return state;
         }
         let next = i + state.count;
-        let Some(text) = plain_after_look(rewriting.phrases, stretch, next) else {
+        let Some(text) = plain_after_look(rewriting.phrases, section, next) else {
             return state;
         };
-        let letters = stretch.letters_from(next);
+        let letters = section.letters_from(next);
         if text.len() > MOST || letters.len() < MOST {
             return state;
         }
-        let (start, end) = (stretch.start(next), stretch.end(next));
+        let (start, end) = (section.start(next), section.end(next));
         state = put_token(
-            rewriting, stretch, i, before, text, letters, MOST, start, end, state, batch,
+            rewriting, section, i, before, text, letters, MOST, start, end, state, batch,
         );
     }
     state
@@ -220,7 +220,7 @@ pub(crate) fn spell(
 #[inline(never)]
 fn spell_plain(
     rewriting: &Rewriting<'_>,
-    stretch: &Stretch<'_>,
+    section: &Section<'_>,
     i: usize,
     most: usize,
     before: usize,
@@ -228,22 +228,22 @@ fn spell_plain(
     batch: &mut Batch,
 )
     requires order { state.old.count ≤ most }
-    requires within { i + most ≤ length stretch.now }
+    requires within { i + most ≤ length section.now }
     requires few { most ≤ TOKENS }
     requires before { before ≡ length (spelled (texts_of rewriting.now.tokens)) }
     requires fits { before ≤ MAX_BEFORE }
     requires none { rewriting.now.rewriter ≡ nothing_kept }
-    requires texts { HaveTexts stretch.now }
-    requires held { AreInBatch stretch.now i rewriting.now batch.old state.old }
+    requires texts { HaveTexts section.now }
+    requires held { AreInBatch section.now i rewriting.now batch.old state.old }
     ensures grown { state.old.count ≤ state.new.count }
     ensures within { state.new.count ≤ most }
-    ensures held { AreInBatch stretch.now i rewriting.now batch.new state.new }
+    ensures held { AreInBatch section.now i rewriting.now batch.new state.new }
 {
     let phrases = rewriting.phrases;
-    let tokens = stretch.rest(i);
+    let tokens = section.rest(i);
     let Spelled {
         mut count,
-        mut place,
+        mut offset,
         mut after_word,
     } = *state;
     while count < most {
@@ -257,19 +257,19 @@ fn spell_plain(
         let (start, end) = (tokens.start(count), tokens.end(count));
         let so_far = Spelled {
             count,
-            place,
+            offset,
             after_word,
         };
         let next = put_token(
-            rewriting, stretch, i, before, text, letters, COPIED, start, end, so_far, batch,
+            rewriting, section, i, before, text, letters, COPIED, start, end, so_far, batch,
         );
         count = next.count;
-        place = next.place;
+        offset = next.offset;
         after_word = next.after_word;
     }
     *state = Spelled {
         count,
-        place,
+        offset,
         after_word,
     };
 }
@@ -278,7 +278,7 @@ fn spell_plain(
 #[inline(always)]
 fn put_token(
     rewriting: &Rewriting<'_>,
-    stretch: &Stretch<'_>,
+    section: &Section<'_>,
     i: usize,
     before: usize,
     text: &[u8],
@@ -289,16 +289,16 @@ fn put_token(
     state: Spelled,
     batch: &mut Batch,
 ) -> Spelled
-    requires within { i + state.count < length stretch.now }
+    requires within { i + state.count < length section.now }
     requires few { state.count < TOKENS }
     requires before { before ≡ length (spelled (texts_of rewriting.now.tokens)) }
     requires fits { before ≤ MAX_BEFORE }
     requires none { rewriting.now.rewriter ≡ nothing_kept }
-    requires texts { HaveTexts stretch.now }
-    requires held { AreInBatch stretch.now i rewriting.now batch.old state }
-    requires text { (d : _) → text.now ≡ (slice_index_or stretch.now (i + state.count) d).text }
-    requires start { (d : _) → start ≡ (slice_index_or stretch.now (i + state.count) d).start }
-    requires end { (d : _) → end ≡ (slice_index_or stretch.now (i + state.count) d).end }
+    requires texts { HaveTexts section.now }
+    requires held { AreInBatch section.now i rewriting.now batch.old state }
+    requires text { (d : _) → text.now ≡ (slice_index_or section.now (i + state.count) d).text }
+    requires start { (d : _) → start ≡ (slice_index_or section.now (i + state.count) d).start }
+    requires end { (d : _) → end ≡ (slice_index_or section.now (i + state.count) d).end }
     requires lanes { (wide ≡ COPIED) ⊎ (wide ≡ MOST) }
     requires most { wide ≤ MOST }
     requires short { length text.now ≤ wide }
@@ -306,26 +306,26 @@ fn put_token(
     requires wide { wide ≤ length letters.now }
     requires utf8 { IsUtf8 text.now }
     requires words { HasWords text.now }
-    requires no_sign { begins_sign (drop (i + state.count) stretch.now) ≡ false }
+    requires no_sign { begins_sign (drop (i + state.count) section.now) ≡ false }
     requires left { IsLeft rewriting.now.phrases.now.phrases text.now }
     ensures count { result.count ≡ state.count + 1 }
-    ensures held { AreInBatch stretch.now i rewriting.now batch.new result }
+    ensures held { AreInBatch section.now i rewriting.now batch.new result }
 {
     let count = state.count;
     let blank = state.after_word & is_word_at(text, 0);
-    let place = put(
+    let offset = put(
         &mut batch.bytes,
-        state.place,
+        state.offset,
         blank,
         letters,
         text.len(),
         wide,
     );
-    batch.ends[count] = (before + place) as u32;
+    batch.ends[count] = (before + offset) as u32;
     batch.sources[count] = SourceBytes { start, end };
     Spelled {
         count: count + 1,
-        place,
+        offset,
         after_word: is_word_at(text, text.len() - 1),
     }
 }

@@ -12,24 +12,24 @@ use std::alloc::{AllocError, Global};
 /// The fewest characters that are let go of at once.
 const PART: usize = 65_536;
 
-/// Lets go of the characters before this place once they are a fourth of those that are there. Gives the place where the text goes on.
+/// Lets go of the characters before this offset once they are a fourth of those that are there. Gives the offset where the text goes on.
 #[inline(always)]
-fn let_go(characters: &mut Vec<SourceChar>, place: usize) -> usize
-    requires { place ≤ length characters.old.items }
+fn let_go(characters: &mut Vec<SourceChar>, offset: usize) -> usize
+    requires { offset ≤ length characters.old.items }
     ensures within { result ≤ length characters.new.items }
-    ensures left { drop result characters.new.items ≡ drop place characters.old.items }
+    ensures left { drop result characters.new.items ≡ drop offset characters.old.items }
 {
-    if place < PART || place < characters.len() / 4 {
-        return place;
+    if offset < PART || offset < characters.len() / 4 {
+        return offset;
     }
-    characters.copy_within(place.., 0);
-    characters.truncate(characters.len() - place);
+    characters.copy_within(offset.., 0);
+    characters.truncate(characters.len() - offset);
     characters.shrink_to_fit();
     0
 }
 
 impl Rewriting<'_> {
-    /// Takes a long text, from this place on, as `take_characters` does, and lets go of the characters that are taken: so their memory is
+    /// Takes a long text, from this offset on, as `take_characters` does, and lets go of the characters that are taken: so their memory is
     /// given back while the memory for the list of tokens grows.
     pub fn take_long(
         &mut self,
@@ -49,26 +49,26 @@ impl Rewriting<'_> {
     {
         self.settled.clear();
         let mut after_blank = true;
-        let mut place = from;
-        while place < characters.len() {
-            let rest = &characters[place..];
+        let mut offset = from;
+        while offset < characters.len() {
+            let rest = &characters[offset..];
             match start_of_text(alloc, rest, letters)? {
                 TextStart::Blank => {
                     after_blank = true;
-                    place += 1;
+                    offset += 1;
                 }
                 TextStart::Token(length) => {
                     let start = rest[0].start;
                     let end = rest[length - 1].end;
                     // Before its text is listed: a token can be as long as the text.
-                    place = let_go(characters, place + length);
+                    offset = let_go(characters, offset + length);
                     self.take_text(alloc, letters.as_str(), start, end, after_blank)?;
                     after_blank = false;
                 }
                 TextStart::Other => {
                     let part = self.take_front(alloc, rules, after_blank, rest, buffers)?;
                     after_blank = part.blank_after;
-                    place = let_go(characters, place + part.length);
+                    offset = let_go(characters, offset + part.length);
                 }
             }
         }

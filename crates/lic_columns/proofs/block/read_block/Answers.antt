@@ -8,10 +8,10 @@ pub returns-clause-word : goal.returns-clause-word
 returns-clause-word c =
     let flags : map (λ d. d == 0) c.classes-classes.result ≡ map is_word c.args.bytes =
     ap (map (λ d. d == 0)) c.classes-classes.ensures ∙ word_classes c.args.bytes c.fits-bytes.1 in
-    subst (IsMask c.places_of.result) flags c.places_of.ensures
+    subst (IsMask c.offsets_of.result) flags c.offsets_of.ensures
 
 pub returns-clause-mark : goal.returns-clause-mark
 returns-clause-mark c =
     let flags : map (λ d. nat_le 3 d) c.classes-classes.result ≡ map is_mark c.args.bytes =
     ap (map (λ d. nat_le 3 d)) c.classes-classes.ensures ∙ mark_classes c.args.bytes c.fits-bytes.1 in
-    subst (IsMask c.places_from.result) flags c.places_from.ensures
+    subst (IsMask c.offsets_from.result) flags c.offsets_from.ensures

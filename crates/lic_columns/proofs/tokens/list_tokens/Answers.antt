@@ -4,7 +4,7 @@ use Rattle.lic_columns.specs.Cells.{Blank}
 use Rattle.lic_columns.specs.Flags.{bits_of}
 use Rattle.lic_columns.specs.Marks.{joined_marks, kept_in}
 use Rattle.lic_columns.specs.Masks.{IsColumn}
-use Rattle.lic_columns.specs.Places.{places}
+use Rattle.lic_columns.specs.Offsets.{offsets}
 use Rattle.lic_letters.proofs.BitLemmas.{has_bit_zero}
 use Rattle.lic_columns.proofs.CellLemmas.{length-cells, length-firsts, length-lasts}
 use Rattle.lic_columns.proofs.ColumnLemmas.{ends_before}
@@ -35,16 +35,16 @@ loop-k-preserved c =
     let cells = cells_of words kept joined in
     let here = c.next-here.ensures in
     let word : IsColumn c.column-word.result words k = record { bit = c.column-word.ensures } in
-    let first = c.first_places.ensures words kept joined k is.cells is.before word here.kept here.joined in
-    let end = c.end_places.ensures words kept joined k is.cells is.before word is.kept here.kept here.joined in
+    let first = c.first_offsets.ensures words kept joined k is.cells is.before word here.kept here.joined in
+    let end = c.end_offsets.ensures words kept joined k is.cells is.before word is.kept here.kept here.joined in
     let long : length words ≡ length c.args.bytes.now = ap length c.word-words.ensures ∙ c.requires.text.whole.word in
     let bounded : k * 64 ≤ length cells = omega (arith, length-cells words kept joined is.cells, long, c.loop-k-test.true) in
-    let start_more : c.put.new.self ≡ c.loop-k.starts ++ places (at + k * 64) (bits_of 64 c.first_places.result) = search rules in
-    let end_more : c.put-in-loop-k.new.self ≡ c.loop-k.ends ++ places (at + k * 64) (bits_of 64 c.end_places.result) = search rules in
+    let start_more : c.put.new.self ≡ c.loop-k.starts ++ offsets (at + k * 64) (bits_of 64 c.first_offsets.result) = search rules in
+    let end_more : c.put-in-loop-k.new.self ≡ c.loop-k.ends ++ offsets (at + k * 64) (bits_of 64 c.end_offsets.result) = search rules in
     record {
       cells = is.cells;
-      starts = one_column_more _ _ at k (at + k * 64) c.first_places.result (firsts Blank cells) is.starts refl start_more (omega (arith, bounded, length-firsts Blank cells)) first;
-      ends = one_column_more _ _ at k (at + k * 64) c.end_places.result (false ∷ lasts cells) is.ends refl end_more (omega (arith, bounded, length-lasts cells)) end;
+      starts = one_column_more _ _ at k (at + k * 64) c.first_offsets.result (firsts Blank cells) is.starts refl start_more (omega (arith, bounded, length-firsts Blank cells)) first;
+      ends = one_column_more _ _ at k (at + k * 64) c.end_offsets.result (false ∷ lasts cells) is.ends refl end_more (omega (arith, bounded, length-lasts cells)) end;
       carried = here.carried;
       mark = record { bit = c.column-after.ensures };
       before = ends_before c.column-word.result k words word;

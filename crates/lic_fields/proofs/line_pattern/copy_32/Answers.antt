@@ -2,4 +2,4 @@ use Rattle.lic_fields.proofs.LineParts.{lanes_written}
 use Rattle.lic_fields.proofs.line_pattern.copy_32.Goals as goal
 
 pub returns-clause-copied : goal.returns-clause-copied
-returns-clause-copied c = lanes_written c.args.bytes.now c.args.from.now c.args.place 32 c.requires.fits c.requires.long
+returns-clause-copied c = lanes_written c.args.bytes.now c.args.from.now c.args.offset 32 c.requires.fits c.requires.long

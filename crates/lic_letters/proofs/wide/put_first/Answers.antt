@@ -13,10 +13,10 @@ returns-then-branch-clause-put c = λ some.
     let first = c.in-Some.ensures in
     let known = c.in_ok-put_simple.ensures in
     let yes = c.if-branch.true in
-    let place : List ℕ = c.put_simple.new.place in
+    let slot : List ℕ = c.put_simple.new.slot in
     let rest : List ℕ = drop n c.args.spelled.now in
-    let long : length place ≡ n = search rules in
+    let long : length slot ≡ n = search rules in
     let width : n ≡ len_utf8 char = c.len_utf8-width.ensures.value in
-    char_put char n bytes [] (take n (place ++ rest)) first.scalar (known.simple yes) (omega (arith, width, first.within))
+    char_put char n bytes [] (take n (slot ++ rest)) first.scalar (known.simple yes) (omega (arith, width, first.within))
     (first.bytes ∙ ap (λ k. encode_utf8 char ++ drop k bytes) (sym width))
-    (λ mark. subst (IsNoFront (encode_utf8 char)) (take_rest bytes n) (known.alone yes mark)) (take_at place rest n long ∙ known.put yes)
+    (λ mark. subst (IsNoFront (encode_utf8 char)) (take_rest bytes n) (known.alone yes mark)) (take_at slot rest n long ∙ known.put yes)

@@ -11,7 +11,7 @@ returns-clause-simple c = λ yes.
     let are : c.as_slice.result.now ≡ one ∷ two ∷ [] =
     pair_is c.as_slice.result.now one two c.in-len2.len_at_least c.in-len2.len_below c.one-item.is c.two-item.is in
     let spelled : spell c.args.c ≡ one ∷ two ∷ [] = sym c.in_ok-letters.ensures.letters ∙ sym c.as_slice.ensures ∙ are in
-    let long : length c.args.place.now ≡ 2 = search rules in
+    let long : length c.args.slot.now ≡ 2 = search rules in
     let width : len_utf8 c.args.c ≡ 2 = sym c.requires.width ∙ long in
     let one_small : one < 128 = search rules in
     let two_small : two < 128 = search rules in

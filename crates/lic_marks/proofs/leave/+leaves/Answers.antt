@@ -5,7 +5,7 @@ use Rattle.lic_marks.specs.declared.node.Node.{the_lemmas}
 use Rattle.lic_marks.proofs.Nodes.{core_of-One, core_of-Copies, core_of-UpTo, core_of-Cat, core_of-Alt, core_of-Repeat, core_of-Plus, core_of-Tidy, children-Cat, children-Alt, child-Repeat, child-Plus, child-Tidy, nullable-Tidy}
 use Rattle.lic_marks.proofs.LetterSteps.{weight-copies, weight-up_to}
 use Rattle.lic_marks.proofs.RowSteps.{Leaves-empty, Leaves-none, Leaves-one, Leaves-cat, Leaves-alt, Leaves-plus, Leaves-tidy, Leaves-tidy-after, Leaves-front}
-use Rattle.lic_marks.proofs.Counted.{weight-copies as weight-copies_of, weight-same, place_past, copies_more, up_to_more, copies_done, up_to_done}
+use Rattle.lic_marks.proofs.Counted.{weight-copies as weight-copies_of, weight-same, position_past, copies_more, up_to_more, copies_done, up_to_done}
 use Rattle.lic_marks.proofs.Children.{cores_more, cores_done, measured_at}
 use Rattle.lic_marks.proofs.Answers.{or_none, or_again}
 use Rattle.lic_marks.proofs.ClearRows.{none_set}
@@ -104,7 +104,7 @@ pub leaves_row-loop-child-preserved : goal.leaves_row-loop-child-preserved
 leaves_row-loop-child-preserved t c =
     let more = ap cat_all (cores_more c.args.children.now c.loop-child.child-index _ c.loop-child-test.true c.child-item.is) in
     let rest = rw more at c.loop-child.invariant.rest in
-    rw c.weight-place.ensures record {
+    rw c.weight-position.ensures record {
       begun = omega (arith, c.loop-child.invariant.begun);
       rest = omega (arith, rest);
       walk = λ y q. c.loop-child.invariant.walk y (rw more (Leaves-cat _ _ _ _ _ _ _ _ c.leaves-flag.ensures q));
@@ -130,7 +130,7 @@ pub leaves_any-loop-child-preserved : goal.leaves_any-loop-child-preserved
 leaves_any-loop-child-preserved t c =
     let more = ap alt_all (cores_more c.args.children.now c.loop-child.child-index _ c.loop-child-test.true c.child-item.is) in
     let rest = rw more at c.loop-child.invariant.rest in
-    rw c.weight-place.ensures record {
+    rw c.weight-position.ensures record {
       begun = omega (arith, c.loop-child.invariant.begun);
       rest = omega (arith, rest);
       walk = λ y q. rw (← or_again c.loop-child.found c.leaves-out.result y)
@@ -165,8 +165,8 @@ leaves_copies_of-leaves-flag-requires t c =
       ),
     )
 
-pub leaves_copies_of-overflow_add-place : goal.leaves_copies_of-overflow_add-place
-leaves_copies_of-overflow_add-place t c =
+pub leaves_copies_of-overflow_add-position : goal.leaves_copies_of-overflow_add-position
+leaves_copies_of-overflow_add-position t c =
     let more = copies_more (core_of c.args.child.now) c.args.count c.loop.counter c.loop-test.true in
     let rest = rw more at c.loop.invariant.rest in
     omega (arith, rest, c.requires.within, c.weight-weight.ensures, c.len-width.ensures)
@@ -196,19 +196,19 @@ leaves_copies_of-returns t c =
           (Leaves-empty _ _ _ _));
     }
 
-pub leaves_repeat-overflow_mul-place : goal.leaves_repeat-overflow_mul-place
-leaves_repeat-overflow_mul-place t c =
+pub leaves_repeat-overflow_mul-position : goal.leaves_repeat-overflow_mul-position
+leaves_repeat-overflow_mul-position t c =
     let width = rw c.in-Bounded.is at c.requires.within in
     rw c.weight.ensures (omega (arith, width, c.len-width.ensures, weight-copies_of (core_of c.args.child.now) c.in-Bounded.needed))
 
-pub leaves_repeat-overflow_add-place : goal.leaves_repeat-overflow_add-place
-leaves_repeat-overflow_add-place t c =
+pub leaves_repeat-overflow_add-position : goal.leaves_repeat-overflow_add-position
+leaves_repeat-overflow_add-position t c =
     let width = rw c.in-Bounded.is at c.requires.within in
     rw c.weight.ensures (omega (arith, width, c.len-width.ensures, weight-copies_of (core_of c.args.child.now) c.in-Bounded.needed))
 
 pub leaves_repeat-leaves_copies_of-out-requires : goal.leaves_repeat-leaves_copies_of-out-requires
 leaves_repeat-leaves_copies_of-out-requires t c =
-    let next = place_past (core_of c.args.child.now) c.in-Bounded.needed c.args.at _ c.weight.ensures in
+    let next = position_past (core_of c.args.child.now) c.in-Bounded.needed c.args.at _ c.weight.ensures in
     let same = weight-same (core_of c.args.child.now) c.in-Bounded.more in
     let width = rw c.in-Bounded.is at c.requires.within in (
       search (rules, the_lemmas),
@@ -220,22 +220,22 @@ leaves_repeat-leaves_copies_of-out-requires t c =
 
 pub leaves_repeat-returns-in-Bounded : goal.leaves_repeat-returns-in-Bounded
 leaves_repeat-returns-in-Bounded t c =
-    let next = place_past (core_of c.args.child.now) c.in-Bounded.needed c.args.at _ c.weight.ensures in
+    let next = position_past (core_of c.args.child.now) c.in-Bounded.needed c.args.at _ c.weight.ensures in
     rw c.in-Bounded.is (Leaves-cat _ _ _ _ _ _ _ _ c.leaves_copies_of-past.ensures.all (rw next at c.leaves_copies_of-out.ensures.any))
 
-pub leaves_repeat-overflow_mul-place-in-Unbounded : goal.leaves_repeat-overflow_mul-place-in-Unbounded
-leaves_repeat-overflow_mul-place-in-Unbounded t c =
+pub leaves_repeat-overflow_mul-position-in-Unbounded : goal.leaves_repeat-overflow_mul-position-in-Unbounded
+leaves_repeat-overflow_mul-position-in-Unbounded t c =
     let width = rw c.in-Unbounded.is at c.requires.within in
     rw c.weight-in-Unbounded.ensures (omega (arith, width, c.len-width.ensures, weight-copies_of (core_of c.args.child.now) c.in-Unbounded.before))
 
-pub leaves_repeat-overflow_add-place-in-Unbounded : goal.leaves_repeat-overflow_add-place-in-Unbounded
-leaves_repeat-overflow_add-place-in-Unbounded t c =
+pub leaves_repeat-overflow_add-position-in-Unbounded : goal.leaves_repeat-overflow_add-position-in-Unbounded
+leaves_repeat-overflow_add-position-in-Unbounded t c =
     let width = rw c.in-Unbounded.is at c.requires.within in
     rw c.weight-in-Unbounded.ensures (omega (arith, width, c.len-width.ensures, weight-copies_of (core_of c.args.child.now) c.in-Unbounded.before))
 
 pub leaves_repeat-leaves-requires : goal.leaves_repeat-leaves-requires
 leaves_repeat-leaves-requires t c =
-    let next = place_past (core_of c.args.child.now) c.in-Unbounded.before c.args.at _ c.weight-in-Unbounded.ensures in
+    let next = position_past (core_of c.args.child.now) c.in-Unbounded.before c.args.at _ c.weight-in-Unbounded.ensures in
     let width = rw c.in-Unbounded.is at c.requires.within in (
       search (rules, the_lemmas),
       (
@@ -246,5 +246,5 @@ leaves_repeat-leaves-requires t c =
 
 pub leaves_repeat-returns-in-Unbounded : goal.leaves_repeat-returns-in-Unbounded
 leaves_repeat-returns-in-Unbounded t c =
-    let next = place_past (core_of c.args.child.now) c.in-Unbounded.before c.args.at _ c.weight-in-Unbounded.ensures in
+    let next = position_past (core_of c.args.child.now) c.in-Unbounded.before c.args.at _ c.weight-in-Unbounded.ensures in
     rw c.in-Unbounded.is (Leaves-cat _ _ _ _ _ _ _ _ c.leaves_copies_of-past-in-Unbounded.ensures.all (Leaves-plus _ _ _ _ _ _ (rw next at c.leaves.ensures)))

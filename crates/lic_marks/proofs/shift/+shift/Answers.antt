@@ -9,7 +9,7 @@ use Rattle.lic_marks.proofs.Nodes.{core_of-One, core_of-Copies, core_of-UpTo, co
 use Rattle.lic_marks.proofs.LetterSteps.{weight-copies, weight-up_to}
 use Rattle.lic_marks.proofs.RowSteps.{Shifts-empty, Shifts-none, Shifts-one, Shifts-cat, Shifts-alt, Shifts-front, Shifts-plus, Shifts-tidy, Shifts-tidy-clear, Leaves-tidy-after}
 use Rattle.lic_marks.proofs.Leaving.{Leaves-tidy-past, and_never, never_and}
-use Rattle.lic_marks.proofs.Counted.{weight-copies as weight-copies_of, weight-same, place_past, copies_more, up_to_more, copies_done, up_to_done}
+use Rattle.lic_marks.proofs.Counted.{weight-copies as weight-copies_of, weight-same, position_past, copies_more, up_to_more, copies_done, up_to_done}
 use Rattle.lic_marks.proofs.Children.{cores_more, cores_done, measured_at}
 use Rattle.lic_marks.proofs.Answers.{or_none, or_again}
 use Rattle.lic_marks.proofs.Untouched.{Shifts-untouched}
@@ -171,7 +171,7 @@ pub shift_row-loop-child-preserved : goal.shift_row-loop-child-preserved
 shift_row-loop-child-preserved t c =
     let more = ap cat_all (cores_more c.args.children.now c.loop-child.child-index _ c.loop-child-test.true c.child-item.is) in
     let rest = rw more at c.loop-child.invariant.rest in
-    rw c.weight-place.ensures record {
+    rw c.weight-position.ensures record {
       begun = omega (arith, c.loop-child.invariant.begun);
       rest = omega (arith, rest);
       long = c.shift-flag.ensures.len ∙ c.loop-child.invariant.long;
@@ -202,7 +202,7 @@ pub shift_any-loop-child-preserved : goal.shift_any-loop-child-preserved
 shift_any-loop-child-preserved t c =
     let more = ap alt_all (cores_more c.args.children.now c.loop-child.child-index _ c.loop-child-test.true c.child-item.is) in
     let rest = rw more at c.loop-child.invariant.rest in
-    rw c.weight-place.ensures record {
+    rw c.weight-position.ensures record {
       begun = omega (arith, c.loop-child.invariant.begun);
       rest = omega (arith, rest);
       long = c.shift-out.ensures.len ∙ c.loop-child.invariant.long;
@@ -231,8 +231,8 @@ shift_copies_of-shift-flag-requires t c =
       ),
     )
 
-pub shift_copies_of-overflow_add-place : goal.shift_copies_of-overflow_add-place
-shift_copies_of-overflow_add-place t c =
+pub shift_copies_of-overflow_add-position : goal.shift_copies_of-overflow_add-position
+shift_copies_of-overflow_add-position t c =
     let more = copies_more (core_of c.args.child.now) c.args.count c.loop.counter c.loop-test.true in
     let rest = rw more at c.loop.invariant.rest in
     omega (arith, rest, c.requires.within, c.weight-weight.ensures, c.len-width.ensures)
@@ -263,19 +263,19 @@ shift_copies_of-returns t c =
       len = c.loop.invariant.long;
     }
 
-pub shift_repeat-overflow_mul-place : goal.shift_repeat-overflow_mul-place
-shift_repeat-overflow_mul-place t c =
+pub shift_repeat-overflow_mul-position : goal.shift_repeat-overflow_mul-position
+shift_repeat-overflow_mul-position t c =
     let width = rw c.in-Bounded.is at c.requires.within in
     rw c.weight.ensures (omega (arith, width, c.len-width.ensures, weight-copies_of (core_of c.args.child.now) c.in-Bounded.needed))
 
-pub shift_repeat-overflow_add-place : goal.shift_repeat-overflow_add-place
-shift_repeat-overflow_add-place t c =
+pub shift_repeat-overflow_add-position : goal.shift_repeat-overflow_add-position
+shift_repeat-overflow_add-position t c =
     let width = rw c.in-Bounded.is at c.requires.within in
     rw c.weight.ensures (omega (arith, width, c.len-width.ensures, weight-copies_of (core_of c.args.child.now) c.in-Bounded.needed))
 
 pub shift_repeat-shift_copies_of-out-requires : goal.shift_repeat-shift_copies_of-out-requires
 shift_repeat-shift_copies_of-out-requires t c =
-    let next = place_past (core_of c.args.child.now) c.in-Bounded.needed c.args.at _ c.weight.ensures in
+    let next = position_past (core_of c.args.child.now) c.in-Bounded.needed c.args.at _ c.weight.ensures in
     let same = weight-same (core_of c.args.child.now) c.in-Bounded.more in
     let width = rw c.in-Bounded.is at c.requires.within in (
       search (rules, the_lemmas),
@@ -287,7 +287,7 @@ shift_repeat-shift_copies_of-out-requires t c =
 
 pub shift_repeat-returns-in-Bounded : goal.shift_repeat-returns-in-Bounded
 shift_repeat-returns-in-Bounded t c =
-    let next = place_past (core_of c.args.child.now) c.in-Bounded.needed c.args.at _ c.weight.ensures in
+    let next = position_past (core_of c.args.child.now) c.in-Bounded.needed c.args.at _ c.weight.ensures in
     let width = rw c.in-Bounded.is at c.requires.within in
     let shifts = rw next at c.shift_copies_of-out.ensures.any in
     record {
@@ -295,19 +295,19 @@ shift_repeat-returns-in-Bounded t c =
       len = c.shift_copies_of-out.ensures.len ∙ c.shift_copies_of-past.ensures.len;
     }
 
-pub shift_repeat-overflow_mul-place-in-Unbounded : goal.shift_repeat-overflow_mul-place-in-Unbounded
-shift_repeat-overflow_mul-place-in-Unbounded t c =
+pub shift_repeat-overflow_mul-position-in-Unbounded : goal.shift_repeat-overflow_mul-position-in-Unbounded
+shift_repeat-overflow_mul-position-in-Unbounded t c =
     let width = rw c.in-Unbounded.is at c.requires.within in
     rw c.weight-in-Unbounded.ensures (omega (arith, width, c.len-width.ensures, weight-copies_of (core_of c.args.child.now) c.in-Unbounded.before))
 
-pub shift_repeat-overflow_add-place-in-Unbounded : goal.shift_repeat-overflow_add-place-in-Unbounded
-shift_repeat-overflow_add-place-in-Unbounded t c =
+pub shift_repeat-overflow_add-position-in-Unbounded : goal.shift_repeat-overflow_add-position-in-Unbounded
+shift_repeat-overflow_add-position-in-Unbounded t c =
     let width = rw c.in-Unbounded.is at c.requires.within in
     rw c.weight-in-Unbounded.ensures (omega (arith, width, c.len-width.ensures, weight-copies_of (core_of c.args.child.now) c.in-Unbounded.before))
 
 pub shift_repeat-shift_plus-requires : goal.shift_repeat-shift_plus-requires
 shift_repeat-shift_plus-requires t c =
-    let next = place_past (core_of c.args.child.now) c.in-Unbounded.before c.args.at _ c.weight-in-Unbounded.ensures in
+    let next = position_past (core_of c.args.child.now) c.in-Unbounded.before c.args.at _ c.weight-in-Unbounded.ensures in
     let width = rw c.in-Unbounded.is at c.requires.within in (
       search (rules, the_lemmas),
       (
@@ -318,7 +318,7 @@ shift_repeat-shift_plus-requires t c =
 
 pub shift_repeat-returns-in-Unbounded : goal.shift_repeat-returns-in-Unbounded
 shift_repeat-returns-in-Unbounded t c =
-    let next = place_past (core_of c.args.child.now) c.in-Unbounded.before c.args.at _ c.weight-in-Unbounded.ensures in
+    let next = position_past (core_of c.args.child.now) c.in-Unbounded.before c.args.at _ c.weight-in-Unbounded.ensures in
     let width = rw c.in-Unbounded.is at c.requires.within in
     let shifts = rw next at c.shift_plus.ensures.shifts in
     record {

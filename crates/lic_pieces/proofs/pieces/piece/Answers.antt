@@ -15,7 +15,7 @@ use Rattle.lic_norm.proofs.TokenTexts.{rewritten-all}
 use Rattle.lic_pieces.proofs.PieceTokens.{piece-texts}
 use Rattle.lic_pieces.proofs.pieces.piece.Goals as goal
 
--- the texts of the tokens of a rewriting, by the tokens without their places
+-- the texts of the tokens of a rewriting, by the tokens without their spans
 texts_by : (words phrases : List Phrase) (taken first : List Token) (tokens : List TokenValue) → tokens ≡ map reported (rewritten phrases taken)
     → phrases ≡ words → map bare_token taken ≡ first → texts_of tokens ≡ texts_after words first
 texts_by words phrases taken first tokens listed same bare =

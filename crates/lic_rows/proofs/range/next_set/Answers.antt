@@ -1,15 +1,15 @@
 use Rattle.std.proofs.Common.{ℕ, Bool, ◌<◌, arith}
 use Rattle.lic_rows.specs.Bits.{has}
-use Rattle.lic_rows.proofs.Finds.{place_after, place_wanted, none_before}
+use Rattle.lic_rows.proofs.Finds.{index_after, index_wanted, none_before}
 use Rattle.lic_rows.proofs.range.next_set.Goals as goal
 
 pub returns-then-found-to-clause-found : goal.returns-then-found-to-clause-found
 returns-then-found-to-clause-found c =
     let wanted : ℕ → Bool = λ b. has c.args.row.now b in
     let some : 0 < c.loop-word.word = omega (arith, c.if-word-eq0.false) in (
-      place_after wanted c.args.from c.args.to c.requires.order c.loop-word.at c.loop-word.word c.loop-word.invariant some,
+      index_after wanted c.args.from c.args.to c.requires.order c.loop-word.at c.loop-word.word c.loop-word.invariant some,
       c.if-found-to.true,
-      place_wanted wanted c.args.from c.args.to c.requires.order c.loop-word.at c.loop-word.word c.loop-word.invariant some,
+      index_wanted wanted c.args.from c.args.to c.requires.order c.loop-word.at c.loop-word.word c.loop-word.invariant some,
       none_before wanted c.args.from c.args.to c.requires.order c.loop-word.at c.loop-word.word c.loop-word.invariant some,
     )
 

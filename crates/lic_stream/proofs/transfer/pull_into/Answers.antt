@@ -5,7 +5,7 @@ use Rattle.std.proofs.lemmas.List.{length-take-le, take-append-le, take_at, with
 use borrow.Rule.Slice.PartMut.{put_mid}
 use Rattle.lic_stream.proofs.transfer.pull_into.Goals as goal
 
--- what was read over the bytes from a place on
+-- what was read over the bytes from an offset on
 read_over : (bytes buf : List ℕ) (a k n : ℕ) → a ≤ length bytes → n ≤ length buf → take (a + n) (put_mid a k bytes buf) ≡ take a bytes ++ take n buf
 read_over bytes buf a k n fits short =
     ap (λ m. take (m + n) (put_mid a k bytes buf)) (sym (length-take-le a bytes fits))

@@ -26,7 +26,7 @@ pub returns-clause-sequence : goal.returns-clause-sequence
 returns-clause-sequence c =
     let line = c.args.line.now in
     let side = c.args.side in
-    let characters = c.deref.ensures.value ∙ c.in_ok-place.ensures in
+    let characters = c.deref.ensures.value ∙ c.in_ok-put_source.ensures in
     c.in_ok-length.ensures.sequence
     ∙ ap (λ l. longest_front (is_sequence (is_walked_piece (rules_of c.args.rules.now) side)) (walked side l))
     (ap chars_of characters ∙ chars_of-placed 0 line)
@@ -35,7 +35,7 @@ pub returns-clause-order : goal.returns-clause-order
 returns-clause-order c =
     let line = c.args.line.now in
     let side = c.args.side in
-    let characters = c.deref.ensures.value ∙ c.in_ok-place.ensures in
+    let characters = c.deref.ensures.value ∙ c.in_ok-put_source.ensures in
     (has_spaces (rules_of c.args.rules.now) side (walked side line) c.spaces-spaces.result c.in_ok-length.length c.spaces-spaces.ensures
     (c.in_ok-length.ensures.sequence
     ∙ ap (λ l. longest_front (is_sequence (is_walked_piece (rules_of c.args.rules.now) side)) (walked side l))
@@ -45,7 +45,7 @@ pub returns-clause-within : goal.returns-clause-within
 returns-clause-within c =
     let line = c.args.line.now in
     let side = c.args.side in
-    let characters = c.deref.ensures.value ∙ c.in_ok-place.ensures in
+    let characters = c.deref.ensures.value ∙ c.in_ok-put_source.ensures in
     let fits = (has_spaces (rules_of c.args.rules.now) side (walked side line) c.spaces-spaces.result c.in_ok-length.length c.spaces-spaces.ensures
     (c.in_ok-length.ensures.sequence
     ∙ ap (λ l. longest_front (is_sequence (is_walked_piece (rules_of c.args.rules.now) side)) (walked side l))

@@ -10,12 +10,12 @@ returns-then-has_no_item-clause-item c = sym (c.has_no_item.ensures c.if-has_no_
 
 pub returns-clause-item : goal.returns-clause-item
 returns-clause-item c =
-    let characters = c.deref.ensures.value ∙ c.in_ok-place.ensures in
+    let characters = c.deref.ensures.value ∙ c.in_ok-put_source.ensures in
     c.item_length.ensures.item
     ∙ ap (item_length (rules_of c.args.rules.now)) (append-nil _ ∙ ap chars_of characters ∙ chars_of-placed 0 c.args.line.now)
 
 pub returns-clause-within : goal.returns-clause-within
 returns-clause-within c =
     let many : length c.deref.result.now ≡ length c.args.line.now =
-    ap length (c.deref.ensures.value ∙ c.in_ok-place.ensures) ∙ length-placed 0 c.args.line.now in
+    ap length (c.deref.ensures.value ∙ c.in_ok-put_source.ensures) ∙ length-placed 0 c.args.line.now in
     omega (arith, c.item_length.ensures.within)

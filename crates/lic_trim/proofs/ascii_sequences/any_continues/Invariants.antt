@@ -8,4 +8,4 @@ use Rattle.lic_trim.proofs.ascii_sequences.any_continues.Given as goal
 
 -- none of the texts so far does
 abbrev pub invariant-loop-i : goal.invariant-loop-i
-invariant-loop-i l = list_any (continues (drop l.place (walked End l.line))) (take l.i (texts_of l.texts)) ≡ false
+invariant-loop-i l = list_any (continues (drop l.index (walked End l.line))) (take l.i (texts_of l.texts)) ≡ false

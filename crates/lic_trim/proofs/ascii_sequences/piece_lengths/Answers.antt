@@ -13,7 +13,7 @@ use Rattle.lic_trim.proofs.ascii_sequences.piece_lengths.Goals as goal
 
 pub text_lengths-requires-clause-begun : goal.text_lengths-requires-clause-begun
 text_lengths-requires-clause-begun c =
-    let way = drop c.args.place (walked c.args.side c.args.line.now) in
+    let way = drop c.args.index (walked c.args.side c.args.line.now) in
     subst (HasBits c.in_ok-begun.begun c.args.side way) (sym c.side_texts.ensures) c.in_ok-begun.ensures.texts
 
 pub returns-then-begun-eq0 : goal.returns-then-begun-eq0
@@ -21,14 +21,14 @@ returns-then-begun-eq0 c =
     let rules = rules_of c.args.rules.now in
     let side = c.args.side in
     let line = walked side c.args.line.now in
-    let place = c.args.place in
-    let way = drop place line in
+    let index = c.args.index in
+    let way = drop index line in
     let many = length-walked side c.args.line.now in
-    let start : place + 0 ≡ place = omega arith in
-    let first : get_or way 0 0 ≡ c.byte_at.result = get_or-drop place line 0 0 ∙ ap (λ k. get_or line k 0) start ∙ sym c.byte_at.ensures in
+    let start : index + 0 ≡ index = omega arith in
+    let first : get_or way 0 0 ≡ c.byte_at.result = get_or-drop index line 0 0 ∙ ap (λ k. get_or line k 0) start ∙ sym c.byte_at.ensures in
     let space = c.space_length-space.result in
     let separators = c.in_ok-separators.separators in
-    space_lengths rules side way (bit_or space separators) (omega (arith, length-drop place line))
+    space_lengths rules side way (bit_or space separators) (omega (arith, length-drop index line))
     (subst (HasBegun rules side way) c.if-begun-eq0.true c.in_ok-begun.ensures)
     (λ n. has_bit_or space separators n
     ∙ ap₂ (λ a b. a || b) (c.space_length-space.ensures n ∙ ap (λ b. is_whitespace b && (n == 1)) (sym first)) (c.in_ok-separators.ensures n))
@@ -38,18 +38,18 @@ returns c =
     let rules = rules_of c.args.rules.now in
     let side = c.args.side in
     let line = walked side c.args.line.now in
-    let place = c.args.place in
-    let way = drop place line in
+    let index = c.args.index in
+    let way = drop index line in
     let many = length-walked side c.args.line.now in
-    let start : place + 0 ≡ place = omega arith in
-    let first : get_or way 0 0 ≡ c.byte_at.result = get_or-drop place line 0 0 ∙ ap (λ k. get_or line k 0) start ∙ sym c.byte_at.ensures in
+    let start : index + 0 ≡ index = omega arith in
+    let first : get_or way 0 0 ≡ c.byte_at.result = get_or-drop index line 0 0 ∙ ap (λ k. get_or line k 0) start ∙ sym c.byte_at.ensures in
     let space = c.space_length-space.result in
     let texts = c.in_ok-texts.texts in
     let spaced = c.in_ok-spaced.spaced in
     let repeated = c.in_ok-repeated.repeated in
     let separators = c.in_ok-separators.separators in
     let blank = bit_or space separators in
-    all_lengths rules side way (bit_or (bit_or blank texts) (bit_or spaced repeated)) (omega (arith, length-drop place line)) c.in_ok-repeated.ensures.once
+    all_lengths rules side way (bit_or (bit_or blank texts) (bit_or spaced repeated)) (omega (arith, length-drop index line)) c.in_ok-repeated.ensures.once
     (λ n. has_bit_or (bit_or blank texts) (bit_or spaced repeated) n
     ∙ ap₂ (λ a b. a || b)
     (has_bit_or blank texts n

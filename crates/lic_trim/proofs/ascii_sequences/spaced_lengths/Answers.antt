@@ -13,7 +13,7 @@ loop-i-init c = has_bit_zero
 
 pub loop-i-preserved : goal.loop-i-preserved
 loop-i-preserved c = λ n.
-    let way = drop c.args.place (walked c.args.side c.args.line.now) in
+    let way = drop c.args.index (walked c.args.side c.args.line.now) in
     let texts = texts_of c.args.texts.now in
     let i = c.loop-i.i in
     let test = λ (t : List ℕ). begins_with_spaced n way (walked c.args.side t) in
@@ -24,6 +24,6 @@ loop-i-preserved c = λ n.
 
 pub returns : goal.returns
 returns c = λ n.
-    let way = drop c.args.place (walked c.args.side c.args.line.now) in
+    let way = drop c.args.index (walked c.args.side c.args.line.now) in
     let texts = texts_of c.args.texts.now in
     c.loop-i.invariant n ∙ ap (list_any (λ t. begins_with_spaced n way (walked c.args.side t))) (take_all c.loop-i.i texts (omega arith))

@@ -9,5 +9,5 @@ loop-count-init c =
     record {
       within = omega arith;
       some = omega arith;
-      same = λ i lt. let first : c.args.place + i ≡ c.args.place = omega arith in ap (slice_index line) first;
+      same = λ i lt. let first : c.args.index + i ≡ c.args.index = omega arith in ap (slice_index line) first;
     }

@@ -5,9 +5,9 @@ use Rattle.lic_trim.proofs.ascii_sequences.streak_length.Given as goal
 
 abbrev pub invariant-loop-count : goal.invariant-loop-count
 invariant-loop-count l = record {
-  within : l.place + l.count ≤ length l.line;
+  within : l.index + l.count ≤ length l.line;
   some : 0 < l.count;
-  same : (i : ℕ) → i < l.count → slice_index (walked l.side l.line) (l.place + i) ≡ slice_index (walked l.side l.line) l.place;
+  same : (i : ℕ) → i < l.count → slice_index (walked l.side l.line) (l.index + i) ≡ slice_index (walked l.side l.line) l.index;
 }
 
 abbrev pub decreases-loop-count : goal.decreases-loop-count

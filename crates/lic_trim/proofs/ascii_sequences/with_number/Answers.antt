@@ -10,7 +10,7 @@ pub returns : goal.returns
 returns c =
     let texts = texts_of c.args.texts.now in
     let side = c.args.side in
-    let way = drop c.args.place (walked side c.args.line.now) in
+    let way = drop c.args.index (walked side c.args.line.now) in
     let on = lt-ltb c.args.i (length texts) (omega arith) in
     some_weaker c.with_text.result _ _ (λ new is n. is n
     ∙ ap (λ t. has_bit c.args.mask n || begins_with_length n way (walked side t)) c.characters.ensures

@@ -9,18 +9,18 @@ use Rattle.lic_trim.proofs.item.first_space.Goals as goal
 pub returns-then-is_whitespace : goal.returns-then-is_whitespace
 returns-then-is_whitespace c =
     let text = chars_of c.args.text.now in
-    let place = c.loop-place.place in
+    let index = c.loop-index.index in
     let many : length text ≡ length c.args.text.now = length-map c.args.text.now char_of in
     record {
       within = omega arith;
-      place = sym (position_or_len_is is_whitespace text place 0 (omega arith) c.loop-place.invariant
-          (λ lt. ap is_whitespace (get_or-map char_of c.args.text.now place none 0 (omega arith)) ∙ sym c.if-is_whitespace.ensures));
+      index = sym (position_or_len_is is_whitespace text index 0 (omega arith) c.loop-index.invariant
+          (λ lt. ap is_whitespace (get_or-map char_of c.args.text.now index none 0 (omega arith)) ∙ sym c.if-is_whitespace.ensures));
     }
 
-pub loop-place-preserved : goal.loop-place-preserved
-loop-place-preserved c =
-    below_more _ _ c.loop-place.invariant
-    (ap is_whitespace (get_or-map char_of c.args.text.now c.loop-place.place none 0 (omega arith))
+pub loop-index-preserved : goal.loop-index-preserved
+loop-index-preserved c =
+    below_more _ _ c.loop-index.invariant
+    (ap is_whitespace (get_or-map char_of c.args.text.now c.loop-index.index none 0 (omega arith))
     ∙ sym c.if-is_whitespace.ensures)
 
 pub returns : goal.returns
@@ -29,6 +29,6 @@ returns c =
     let many : length text ≡ length c.args.text.now = length-map c.args.text.now char_of in
     record {
       within = omega arith;
-      place = sym (position_or_len_is is_whitespace text (length c.args.text.now) 0
-          (omega arith) (λ k lt. c.loop-place.invariant k (omega arith)) (λ lt. absurd (omega arith)));
+      index = sym (position_or_len_is is_whitespace text (length c.args.text.now) 0
+          (omega arith) (λ k lt. c.loop-index.invariant k (omega arith)) (λ lt. absurd (omega arith)));
     }

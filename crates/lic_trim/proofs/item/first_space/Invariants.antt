@@ -3,5 +3,5 @@ use Rattle.std.specs.Char.{is_whitespace}
 use Rattle.lic_trim.specs.Sources.{chars_of}
 use Rattle.lic_trim.proofs.item.first_space.Given as goal
 
-abbrev pub invariant-loop-place : goal.invariant-loop-place
-invariant-loop-place l = (k : ℕ) → k < l.place → is_whitespace (get_or (chars_of l.text) k 0) ≡ false
+abbrev pub invariant-loop-index : goal.invariant-loop-index
+invariant-loop-index l = (k : ℕ) → k < l.index → is_whitespace (get_or (chars_of l.text) k 0) ≡ false

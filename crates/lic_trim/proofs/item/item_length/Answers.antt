@@ -16,7 +16,7 @@ pub returns-then-end-line-clause-item : goal.returns-then-end-line-clause-item
 returns-then-end-line-clause-item c =
     let many : length (chars_of c.args.line.now) ≡ length c.args.line.now = length-map c.args.line.now char_of in
     sym (item_none (rules_of c.args.rules.now) (chars_of c.args.line.now) (option_to_list c.args.past)
-    (omega (arith, c.first_space-end.ensures.place)) (few_after c.args.past))
+    (omega (arith, c.first_space-end.ensures.index)) (few_after c.args.past))
 
 pub slice_bounds-form-end : goal.slice_bounds-form-end
 slice_bounds-form-end c = sym (length-take-le c.first_space-end.result c.args.line.now (omega arith))
@@ -30,7 +30,7 @@ returns-then-lets_item-clause-item c =
     item_on c.args.rules.now.items (is_item_form form) (lets form rest) end
     (sym c.items.ensures ∙ c.if-not-items.false) (sym c.is_item_form.ensures ∙ c.if-is_item_form.true)
     (sym c.lets_item.ensures ∙ c.if-lets_item.true)
-    ∙ sym (item_value (rules_of c.args.rules.now) line (option_to_list c.args.past) end c.first_space-end.ensures.place (omega arith))
+    ∙ sym (item_value (rules_of c.args.rules.now) line (option_to_list c.args.past) end c.first_space-end.ensures.index (omega arith))
 
 pub returns-else-is_item_form-clause-item : goal.returns-else-is_item_form-clause-item
 returns-else-is_item_form-clause-item c =
@@ -44,7 +44,7 @@ returns-else-is_item_form-clause-item c =
       | else-is_item_form-via-else-is_item_form w ↦ ap (λ b. b && lets form rest) (sym c.is_item_form.ensures ∙ w.if-is_item_form.false)
     ] in
     item_off c.args.rules.now.items (is_item_form form) (lets form rest) end off
-    ∙ sym (item_value (rules_of c.args.rules.now) line (option_to_list c.args.past) end c.first_space-end.ensures.place (omega arith))
+    ∙ sym (item_value (rules_of c.args.rules.now) line (option_to_list c.args.past) end c.first_space-end.ensures.index (omega arith))
   where
     no_right : (a b : Bool) → b ≡ false → (a && b) ≡ false
     no_right true b off = off

@@ -19,19 +19,19 @@ returns-then-flags-end c =
     let text = walked c.args.side c.args.text.now in
     let long : length text ≡ length c.args.text.now = length-walked c.args.side c.args.text.now in
     let many = length-walked_chars c.args.side c.args.line.now in
-    let place : length c.args.text.now ≡ length text = sym long in
+    let index : length c.args.text.now ≡ length text = sym long in
     text_ends-value c.args.flags.now line c.args.end text c.is_text.result (omega arith) (omega arith) (omega arith)
-    (subst (λ n. slice_index_or c.args.flags.now (c.args.end - n) false ≡ true) place c.if-flags-end.true)
+    (subst (λ n. slice_index_or c.args.flags.now (c.args.end - n) false ≡ true) index c.if-flags-end.true)
     (c.is_text.ensures ∙ bytes_eq-walked c.args.side c.args.text.now (chars_of c.part.result.now)
-    ∙ ap (λ l. bytes_eq l text) (c.part.ensures ∙ ap (λ n. slice_range line (c.args.end - n) c.args.end) place))
+    ∙ ap (λ l. bytes_eq l text) (c.part.ensures ∙ ap (λ n. slice_range line (c.args.end - n) c.args.end) index))
 
 pub returns-else-flags-end : goal.returns-else-flags-end
 returns-else-flags-end c =
     let line = walked c.args.side (chars_of c.args.line.now) in
     let text = walked c.args.side c.args.text.now in
     let many = length-walked_chars c.args.side c.args.line.now in
-    let place : length c.args.text.now ≡ length text = sym (length-walked c.args.side c.args.text.now) in
+    let index : length c.args.text.now ≡ length text = sym (length-walked c.args.side c.args.text.now) in
     c.if-flags-end.false ∙ sym (subst (λ n. slice_index_or c.args.flags.now (c.args.end - n) false
-    ≡ false) place c.if-flags-end.false)
+    ≡ false) index c.if-flags-end.false)
     ∙ text_ends-unflagged c.args.flags.now line c.args.end text (omega arith)
-    (subst (λ n. slice_index_or c.args.flags.now (c.args.end - n) false ≡ false) place c.if-flags-end.false)
+    (subst (λ n. slice_index_or c.args.flags.now (c.args.end - n) false ≡ false) index c.if-flags-end.false)

@@ -3,4 +3,4 @@ use Rattle.std.proofs.Common.{◌≡◌, ◌+◌, length}
 use Rattle.lic_vars.proofs.keep.needed_sets.Given as goal
 
 abbrev pub invariant-loop-number : goal.invariant-loop-number
-invariant-loop-number l = length l.needed.items ≡ length l.steps + 1
+invariant-loop-number l = length l.needed.items ≡ length l.instructions + 1

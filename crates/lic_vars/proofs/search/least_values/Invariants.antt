@@ -8,9 +8,9 @@ use Rattle.lic_vars.proofs.search.least_values.Given as goal
 
 abbrev pub invariant-loop-walk : goal.invariant-loop-walk
 invariant-loop-walk l = record {
-  within : l.walk.left ≤ length l.steps;
-  walk : IsWalk l.view (moves_of l.steps) (last_moves l.steps l.walk.left) l.letters (map value_of l.walk.values.items) l.walk.cut l.walk.letters.now;
-  sets : AreSuffixSets l.view l.steps l.sets.items;
+  within : l.walk.left ≤ length l.instructions;
+  walk : IsWalk l.view (moves_of l.instructions) (last_moves l.instructions l.walk.left) l.letters (map value_of l.walk.values.items) l.walk.cut l.walk.letters.now;
+  sets : AreSuffixSets l.view l.instructions l.sets.items;
   enough : l.walk.left ≤ length l.sets.items;
 }
 

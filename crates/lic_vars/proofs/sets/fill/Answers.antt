@@ -37,15 +37,15 @@ set_before-requires-clause-others c = λ other is.
 pub loop-before-preserved : goal.loop-before-preserved
 loop-before-preserved c =
     let tokens = c.args.view.now in
-    let steps = c.args.steps.now in
+    let instructions = c.args.instructions.now in
     let items = c.loop-before.sets.items in
     let next = c.loop-before.before + 1 in
     let spans = c.shrink_to_fit.new.self in
-    let finish = subst (AreFinishing tokens (last_moves steps next)) (sym c.shrink_to_fit.ensures.items) c.in_ok-set.ensures in
+    let finish = subst (AreFinishing tokens (last_moves instructions next)) (sym c.shrink_to_fit.ensures.items) c.in_ok-set.ensures in
     let inv = c.loop-before.invariant in
     let within : next < length items = omega (arith, inv.count, c.loop-before-test.true, c.requires.enough) in
     record {
-      sets = sets-put tokens steps items next spans inv.sets within finish;
+      sets = sets-put tokens instructions items next spans inv.sets within finish;
       count = length-set items next (Some spans) ∙ inv.count;
       stay = λ k there. IsThere-stays items k next spans within (inv.stay k there);
       made = λ k from to. elim (cases_lt k next) [

@@ -5,7 +5,7 @@ use Rattle.lic_vars.proofs.sets.fill.Given as goal
 
 abbrev pub invariant-loop-before : goal.invariant-loop-before
 invariant-loop-before l = record {
-  sets : AreSuffixSets l.view l.steps l.sets.items;
+  sets : AreSuffixSets l.view l.instructions l.sets.items;
   count : length l.sets.items ≡ length l.initial.sets.items;
   stay : (k : ℕ) → IsThere l.initial.sets.items k → IsThere l.sets.items k;
   made : (k : ℕ) → l.start ≤ k → k ≤ l.before → IsThere l.sets.items k;

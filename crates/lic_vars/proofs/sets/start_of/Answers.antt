@@ -17,7 +17,7 @@ loop-needed-preserved c =
         | inr under ↦
             let same : k ≡ low = omega arith in
             HasOther-less sets c.missing_for.result c.min-needed.result other (omega (arith, c.min-needed.ensures))
-            (c.missing_for.ensures other (subst (λ n. IsOther c.args.steps.now n other) same is))
+            (c.missing_for.ensures other (subst (λ n. IsOther c.args.instructions.now n other) same is))
       ];
     }
 

@@ -3,7 +3,7 @@ use Rattle.std.proofs.Common.{w64}
 use Rattle.std.specs.Int.{bit_not}
 use Rattle.std.proofs.lemmas.Nat.{and_le_l}
 use Rattle.lic_columns.specs.Masks.{flag_at}
-use Rattle.lic_columns.proofs.Finds.{Looks-start, Looks-more, none_found, place_after, place_wanted, none_before}
+use Rattle.lic_columns.proofs.Finds.{Looks-start, Looks-more, none_found, offset_after, offset_wanted, none_before}
 use Rattle.lic_columns.proofs.ColumnLemmas.{set_inside}
 use Rattle.lic_columns.proofs.columns.search.first_set.Goals as goal
 
@@ -27,13 +27,13 @@ returns-then-k-last-clause-none c =
 
 pub overflow_mul-result : goal.overflow_mul-result
 overflow_mul-result c =
-    let inside = set_inside c.args.flags.now _ (place_wanted (λ b. flag_at c.args.flags.now b) c.args.from (length c.args.flags.now) c.requires c.loop-mask.k
+    let inside = set_inside c.args.flags.now _ (offset_wanted (λ b. flag_at c.args.flags.now b) c.args.from (length c.args.flags.now) c.requires c.loop-mask.k
     c.loop-mask.mask c.loop-mask.invariant (omega (arith, c.loop-mask-test.false))) in
     omega (arith, inside, c.len-last.ensures)
 
 pub overflow_add-result : goal.overflow_add-result
 overflow_add-result c =
-    let inside = set_inside c.args.flags.now _ (place_wanted (λ b. flag_at c.args.flags.now b) c.args.from (length c.args.flags.now) c.requires c.loop-mask.k
+    let inside = set_inside c.args.flags.now _ (offset_wanted (λ b. flag_at c.args.flags.now b) c.args.from (length c.args.flags.now) c.requires c.loop-mask.k
     c.loop-mask.mask c.loop-mask.invariant (omega (arith, c.loop-mask-test.false))) in
     omega (arith, inside, c.len-last.ensures)
 
@@ -42,8 +42,8 @@ returns-clause-found c =
     let wanted : ℕ → Bool = λ b. flag_at c.args.flags.now b in
     let end = length c.args.flags.now in
     let some : 0 < c.loop-mask.mask = omega (arith, c.loop-mask-test.false) in
-    let here = place_wanted wanted c.args.from end c.requires c.loop-mask.k c.loop-mask.mask c.loop-mask.invariant some in (
-      place_after wanted c.args.from end c.requires c.loop-mask.k c.loop-mask.mask c.loop-mask.invariant some,
+    let here = offset_wanted wanted c.args.from end c.requires c.loop-mask.k c.loop-mask.mask c.loop-mask.invariant some in (
+      offset_after wanted c.args.from end c.requires c.loop-mask.k c.loop-mask.mask c.loop-mask.invariant some,
       set_inside c.args.flags.now _ here,
       here,
       none_before wanted c.args.from end c.requires c.loop-mask.k c.loop-mask.mask c.loop-mask.invariant some,

@@ -17,7 +17,7 @@ invariant_of-self c =
       rest_cleared c.self.inside.len c.args.from c.loop-at.at c.self.inside.columns.items c.loop-at.self-inside.columns.items c.self.invariant.1 i.3,
     )
 
--- a place of the flags is in one of the columns
+-- an offset of the flags is in one of the columns
 column_is_there : (len columns at to : ℕ) → columns ≡ (len + 63) / 64 → at < to → to ≤ len → at / 64 < columns
 column_is_there len columns at to size before bounded = omega arith
 

@@ -8,7 +8,7 @@ use Rattle.lic_words.specs.Letters.{letters_in}
 use Rattle.lic_auto.specs.Runs.{RunHasTakenAmong, numbers_of, steps_of}
 use Rattle.lic_find.specs.Counts.{AreCounted}
 use Rattle.lic_find.specs.Listing.{matches_among}
-use Rattle.lic_find.specs.Remaining.{place_of}
+use Rattle.lic_find.specs.Remaining.{cursor_of}
 use Rattle.lic_find.specs.Starts.{starts_in}
 use Rattle.lic_find.specs.Scans.{letters_up_to}
 use Rattle.lic_find.proofs.LetterLemmas.{letters_of-drop, letters_of-drop_le}
@@ -24,7 +24,7 @@ invariant_of-self c =
     record {
       come = ∥∥₁_map f.come (λ come.
           let next = c.in-Some.ensures come in
-          HasCome-found f.set.now f.text.now.tokens (place_of f) f.run (starts_in f.starts) f.first f.end come c.in-Some.triple next.0 next.1);
+          HasCome-found f.set.now f.text.now.tokens (cursor_of f) f.run (starts_in f.starts) f.first f.end come c.in-Some.triple next.0 next.1);
       order = f.order;
       counted = f.counted;
     }
@@ -36,9 +36,9 @@ returns-in-Some-clause-some c =
     let tokens = f.text.now.tokens in
     let triple = c.in-Some.triple in
     sym c.loop-triple.invariant.rest
-    ∙ same_list (matches_among set tokens (numbers_of f.run) (place_of f)) (triple ∷ matches_among set tokens (numbers_of f.run) (Some triple))
+    ∙ same_list (matches_among set tokens (numbers_of f.run) (cursor_of f)) (triple ∷ matches_among set tokens (numbers_of f.run) (Some triple))
     (∥∥₁_map f.come (λ come. matches_among-next set tokens (λ after. c.matches_are_listed.ensures set tokens after) (numbers_of f.run)
-    (place_of f) triple (c.in-Some.ensures come).2))
+    (cursor_of f) triple (c.in-Some.ensures come).2))
 
 pub returns-in-Some-clause-most : goal.returns-in-Some-clause-most
 returns-in-Some-clause-most c =
@@ -55,10 +55,10 @@ returns-then-self-len-clause-ended c = λ t m here.
     elim c.then-self-len.branch [
       | then-self-len-via-then-self-len w ↦
           let all : length tokens ≤ f.end = omega arith in
-          ∥∥₁_elim f.come le_prop (λ come. AllEndBy-at_end set tokens (place_of f) f.run (starts_in f.starts) f.first f.end come all t m here)
+          ∥∥₁_elim f.come le_prop (λ come. AllEndBy-at_end set tokens (cursor_of f) f.run (starts_in f.starts) f.first f.end come all t m here)
       | then-self-len-via-else-self-len+then-dead w ↦
           ∥∥₁_elim f.come le_prop (λ come.
-          AllEndBy-dead set tokens (place_of f) f.run (starts_in f.starts) f.first f.end come
+          AllEndBy-dead set tokens (cursor_of f) f.run (starts_in f.starts) f.first f.end come
           (w.dead.ensures.among w.if-dead.true) t m here)
     ]
 
@@ -66,7 +66,7 @@ pub returns-then-self-len-clause-none : goal.returns-then-self-len-clause-none
 returns-then-self-len-clause-none c = λ t m after here.
     let f = c.loop-triple.self in
     not_there f.come (λ come.
-    NoneBegins-ended f.set.now f.text.now.tokens (place_of f) f.run (starts_in f.starts) f.first f.end come
+    NoneBegins-ended f.set.now f.text.now.tokens (cursor_of f) f.run (starts_in f.starts) f.first f.end come
     (c.in_default.ensures come) (returns-then-self-len-clause-ended c) t m after here)
 
 pub returns-then-self-len-clause-most : goal.returns-then-self-len-clause-most
@@ -85,7 +85,7 @@ invariant_of-self-in-loop-triple c =
     let text = c.token.ensures.text token in
     record {
       come = ∥∥₁_map f.come (λ come.
-          HasCome-push f.set.now tokens (place_of f) f.run
+          HasCome-push f.set.now tokens (cursor_of f) f.run
           (starts_in f.starts) f.first f.end come c.push.new.self token
           (c.in_default.ensures come) fits c.push.ensures.set c.push.ensures.numbers
           (subst (λ text. RunHasTakenAmong c.push.new.self come.numbers (letters_up_to tokens f.first f.end ++ chars text ∷ [])) text
@@ -113,7 +113,7 @@ loop-triple-preserved c =
     let fall = inv.never_fall in
     let grows = c.push.ensures.never_fall in
     record {
-      rest = ap (λ ns. matches_among f.set.now tokens ns (place_of f)) c.push.ensures.numbers ∙ inv.rest;
+      rest = ap (λ ns. matches_among f.set.now tokens ns (cursor_of f)) c.push.ensures.numbers ∙ inv.rest;
       given = inv.given;
       same = record {
         set = inv.same.set;

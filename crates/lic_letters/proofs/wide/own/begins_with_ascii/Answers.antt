@@ -10,5 +10,5 @@ pub returns : goal.returns
 returns c = λ none.
     let bytes : List ℕ = c.args.bytes.now in
     before_high_own bytes 16 c.requires
-    (sym (leading_from_mask_l (λ b. nat_le 128 b) (chunk 0 16 bytes) (sym c.high_places.ensures ∙ eqb-true c.high_places.result 0 none)
+    (sym (leading_from_mask_l (λ b. nat_le 128 b) (chunk 0 16 bytes) (sym c.high_offsets.ensures ∙ eqb-true c.high_offsets.result 0 none)
     ∙ length-chunk 0 16 bytes c.requires))

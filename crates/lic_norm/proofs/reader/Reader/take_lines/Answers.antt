@@ -14,10 +14,10 @@ returns-in_default-clause-read c =
 pub overflow_add-last : goal.overflow_add-last
 overflow_add-last c =
     let source = c.args.self.now.source.items in
-    let found : IsLastByte (is_byte 0x0A) (drop c.args.from source) (Some c.in-Some.place) =
-    subst (λ l. IsLastByte (is_byte 0x0A) l (Some c.in-Some.place))
+    let found : IsLastByte (is_byte 0x0A) (drop c.args.from source) (Some c.in-Some.offset) =
+    subst (λ l. IsLastByte (is_byte 0x0A) l (Some c.in-Some.offset))
     (searched_rest c.deref.result.now source c.args.from c.deref.ensures.value) c.in-Some.ensures in
-    omega (arith, last_within source c.args.from c.in-Some.place found, c.requires.fits)
+    omega (arith, last_within source c.args.from c.in-Some.offset found, c.requires.fits)
 
 pub take_next-requires-clause-fits : goal.take_next-requires-clause-fits
 take_next-requires-clause-fits c = omega (arith, c.requires.fits, ap length c.loop-self.invariant.source)
@@ -26,22 +26,22 @@ pub take_next-requires-clause-ended : goal.take_next-requires-clause-ended
 take_next-requires-clause-ended c =
     let source = c.args.self.now.source.items in
     let at = c.loop-self.self.line_start in
-    let found : IsLastByte (is_byte 0x0A) (drop c.args.from source) (Some c.in-Some.place) =
-    subst (λ l. IsLastByte (is_byte 0x0A) l (Some c.in-Some.place))
+    let found : IsLastByte (is_byte 0x0A) (drop c.args.from source) (Some c.in-Some.offset) =
+    subst (λ l. IsLastByte (is_byte 0x0A) l (Some c.in-Some.offset))
     (searched_rest c.deref.result.now source c.args.from c.deref.ensures.value) c.in-Some.ensures in
-    λ none. has_ended source c.args.from c.in-Some.place found at c.loop-self-test.true
+    λ none. has_ended source c.args.from c.in-Some.offset found at c.loop-self-test.true
     (subst (λ l. All (λ b. b ≢ 0x0A) (drop at l)) c.loop-self.invariant.source none)
 
 pub returns-clause-read : goal.returns-clause-read
 returns-clause-read c =
     let source = c.args.self.now.source.items in
     let at = c.loop-self.self.line_start in
-    let found : IsLastByte (is_byte 0x0A) (drop c.args.from source) (Some c.in-Some.place) =
-    subst (λ l. IsLastByte (is_byte 0x0A) l (Some c.in-Some.place))
+    let found : IsLastByte (is_byte 0x0A) (drop c.args.from source) (Some c.in-Some.offset) =
+    subst (λ l. IsLastByte (is_byte 0x0A) l (Some c.in-Some.offset))
     (searched_rest c.deref.result.now source c.args.from c.deref.ensures.value) c.in-Some.ensures in
-    let later : c.args.from + c.in-Some.place < at = omega (arith, c.loop-self-test.false) in
+    let later : c.args.from + c.in-Some.offset < at = omega (arith, c.loop-self-test.false) in
     record {
       read = c.loop-self.invariant.read;
       open_line = subst (λ l. All (λ b. b ≢ 0x0A) (drop at l)) (sym c.loop-self.invariant.source)
-          (none_later source c.args.from c.in-Some.place found at later);
+          (none_later source c.args.from c.in-Some.offset found at later);
     }

@@ -4,12 +4,12 @@ use Rattle.lic_norm.specs.Sources.{source_of}
 use Rattle.lic_norm.proofs.reader.characters.push_bytes.Given as goal
 
 -- the characters so far, and those that are left
-abbrev pub invariant-loop-place : goal.invariant-loop-place
-invariant-loop-place l = record {
-  within : l.place ≤ length l.bytes;
-  added : l.characters.items ++ without_dropped (source_of (l.fn.at + l.place) (drop l.place l.bytes))
+abbrev pub invariant-loop-offset : goal.invariant-loop-offset
+invariant-loop-offset l = record {
+  within : l.offset ≤ length l.bytes;
+  added : l.characters.items ++ without_dropped (source_of (l.fn.at + l.offset) (drop l.offset l.bytes))
       ≡ l.fn.characters.items ++ without_dropped (source_of l.fn.at l.bytes);
 }
 
-abbrev pub decreases-loop-place : goal.decreases-loop-place
-decreases-loop-place l = length l.bytes - l.place
+abbrev pub decreases-loop-offset : goal.decreases-loop-offset
+decreases-loop-offset l = length l.bytes - l.offset

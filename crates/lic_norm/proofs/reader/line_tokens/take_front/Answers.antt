@@ -8,20 +8,20 @@ use Rattle.lic_tokens.specs.Tokens.{HaveTexts}
 use Rattle.lic_norm.specs.Tokens.{first_tokens_of}
 use Rattle.lic_norm.proofs.AsciiLines.{first_tokens_of-utf8}
 use Rattle.lic_norm.proofs.FirstLines.{first_tokens_of-none}
-use Rattle.lic_norm.proofs.StretchPlaces.{simple_places}
+use Rattle.lic_norm.proofs.SectionOffsets.{simple_offsets}
 use Rattle.lic_rewriting.proofs.TokenTexts.{lines-texts}
 use Rattle.lic_norm.proofs.reader.line_tokens.take_front.Goals as goal
 
-pub of-stretch-requires : goal.of-stretch-requires
-of-stretch-requires c =
-    simple_places (rules_of c.args.rules.now) c.args.at (take c.in_ok-end.end c.args.bytes.now) c.read_front.new.self
+pub of-section-requires : goal.of-section-requires
+of-section-requires c =
+    simple_offsets (rules_of c.args.rules.now) c.args.at (take c.in_ok-end.end c.args.bytes.now) c.read_front.new.self
     (c.in_ok-end.ensures.tokens (omega (arith, c.if-end-eq0.false)))
 
-pub take_stretch-requires-clause-texts : goal.take_stretch-requires-clause-texts
-take_stretch-requires-clause-texts c =
+pub take_section-requires-clause-texts : goal.take_section-requires-clause-texts
+take_section-requires-clause-texts c =
     let lines = take c.in_ok-end.end c.args.bytes.now in
     let read = c.in_ok-end.ensures.tokens (omega (arith, c.if-end-eq0.false)) in
-    subst HaveTexts (sym (c.of-stretch.ensures ∙ read.tokens)) (lines-texts (rules_of c.args.rules.now) (placed c.args.at (chars lines)))
+    subst HaveTexts (sym (c.of-section.ensures ∙ read.tokens)) (lines-texts (rules_of c.args.rules.now) (placed c.args.at (chars lines)))
 
 pub returns-then-end-eq0-clause-lines : goal.returns-then-end-eq0-clause-lines
 returns-then-end-eq0-clause-lines c = inl refl
@@ -40,6 +40,6 @@ returns-clause-taken c = λ taken has.
     let rules = rules_of c.args.rules.now in
     let lines = take c.in_ok-end.end c.args.bytes.now in
     let read = c.in_ok-end.ensures.tokens (omega (arith, c.if-end-eq0.false)) in
-    subst (λ ts. HasTaken c.take_stretch.new.self (taken ++ ts))
-    (ap single_signs (c.of-stretch.ensures ∙ read.tokens) ∙ first_tokens_of-utf8 rules c.args.at lines c.in_ok-end.ensures.lines.utf8)
-    (c.in_ok-take_stretch.ensures.taken taken has)
+    subst (λ ts. HasTaken c.take_section.new.self (taken ++ ts))
+    (ap single_signs (c.of-section.ensures ∙ read.tokens) ∙ first_tokens_of-utf8 rules c.args.at lines c.in_ok-end.ensures.lines.utf8)
+    (c.in_ok-take_section.ensures.taken taken has)

@@ -12,7 +12,7 @@ pub returns-in-Some-clause-within : goal.returns-in-Some-clause-within
 returns-in-Some-clause-within c = omega (arith, c.in-Some.ensures.0.high, length-take c.ascii_prefix-front.result c.args.bytes.now)
 
 pub returns-in-Some-clause-lines : goal.returns-in-Some-clause-lines
-returns-in-Some-clause-lines c = inl (lines_end-found c.args.bytes.now c.ascii_prefix-front.result c.in-Some.place c.in-Some.ensures)
+returns-in-Some-clause-lines c = inl (lines_end-found c.args.bytes.now c.ascii_prefix-front.result c.in-Some.offset c.in-Some.ensures)
 
 pub returns-in-None-clause-lines : goal.returns-in-None-clause-lines
 returns-in-None-clause-lines c = first_line-ends c.args.bytes.now c.line_end.result c.line_end.ensures.line

@@ -1,4 +1,4 @@
--- Each of the three places is empty.
+-- Each of the three indices is empty.
 use Rattle.std.proofs.Common.{◌≡◌, ◌∙◌, [], Option, None, Some, false, refl, sym, arith}
 use Rattle.std.specs.Option.{is_some}
 use Rattle.std.proofs.lemmas.Bool.{eqb-true, false≢true}

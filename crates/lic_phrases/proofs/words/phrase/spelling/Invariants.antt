@@ -3,5 +3,5 @@ use Rattle.lic_phrases.specs.Keys.{texts_in}
 use Rattle.lic_phrases.specs.Spelling.{spelled}
 use Rattle.lic_phrases.proofs.words.phrase.spelling.Given as goal
 
-abbrev pub invariant-loop-place : goal.invariant-loop-place
-invariant-loop-place l = string_bytes l.spelling ≡ spelled (take l.place (texts_in l.texts))
+abbrev pub invariant-loop-index : goal.invariant-loop-index
+invariant-loop-index l = string_bytes l.spelling ≡ spelled (take l.index (texts_in l.texts))

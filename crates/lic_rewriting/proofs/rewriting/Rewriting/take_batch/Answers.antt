@@ -11,5 +11,5 @@ pub returns-clause-taken : goal.returns-clause-taken
 returns-clause-taken c =
     let stated = c.spell-count.ensures.held.holds in
     let self : Rewriting = c.args.self.now in
-    subst (λ (ts : List TokenValue). HasTakenUpTo c.args.stretch.now c.args.i (c.args.i + c.spell-count.result.count) self (record self { tokens = ts }))
+    subst (λ (ts : List TokenValue). HasTakenUpTo c.args.section.now c.args.i (c.args.i + c.spell-count.result.count) self (record self { tokens = ts }))
     (sym (c.in_ok-add.ensures stated.added stated.spelled)) stated.taken

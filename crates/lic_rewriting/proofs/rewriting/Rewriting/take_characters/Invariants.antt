@@ -5,14 +5,14 @@ use Rattle.lic_rewriting.specs.Taking.{HasTaken}
 use Rattle.lic_rewriting.proofs.rewriting.Rewriting.take_characters.Given as goal
 
 -- the tokens so far have been taken, and with those of what is left they are all
-abbrev pub invariant-loop-place : goal.invariant-loop-place
-invariant-loop-place l = record {
-  within : l.place ≤ length l.text;
+abbrev pub invariant-loop-offset : goal.invariant-loop-offset
+invariant-loop-offset l = record {
+  within : l.offset ≤ length l.text;
   taken : (taken : List Token) → HasTaken l.fn.self taken → (front : List Token) × HasTaken l.self (taken ++ front)
-      × (front ++ text_tokens_after (rules_of l.rules) l.after_blank (drop l.place l.text) ≡ text_tokens_after (rules_of l.rules) true l.text);
+      × (front ++ text_tokens_after (rules_of l.rules) l.after_blank (drop l.offset l.text) ≡ text_tokens_after (rules_of l.rules) true l.text);
   phrases : l.self.phrases.now ≡ l.fn.self.phrases.now;
   emptied : l.self.settled.items ≡ [];
 }
 
-abbrev pub decreases-loop-place : goal.decreases-loop-place
-decreases-loop-place l = length l.text - l.place
+abbrev pub decreases-loop-offset : goal.decreases-loop-offset
+decreases-loop-offset l = length l.text - l.offset

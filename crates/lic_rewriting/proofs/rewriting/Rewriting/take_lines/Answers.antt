@@ -1,20 +1,20 @@
 use Rattle.std.proofs.Common.{◌≡◌, ℕ, ◌-◌, ◌<◌, [], true, length, refl, sym, ap, subst, ◌∙◌, append-nil, length-drop, arith}
-use Rattle.lic_columns.specs.TokenPlaces.{TokenPlaces}
+use Rattle.lic_columns.specs.TokenOffsets.{TokenOffsets}
 use Rattle.lic_phrases.specs.Settling.{Settles}
-use Rattle.lic_rewriting.specs.Stretches.{AreTokenPlaces, tokens_at}
+use Rattle.lic_rewriting.specs.Sections.{AreTokenOffsets, tokens_at}
 use Rattle.lic_tokens.specs.Tokens.{HaveTexts}
-use Rattle.lic_rewriting.proofs.LeftTokens.{all_taken, left, left_places, left_texts, part_taken}
-use Rattle.lic_rewriting.proofs.StretchTokens.{length-span_tokens}
+use Rattle.lic_rewriting.proofs.LeftTokens.{all_taken, left, left_offsets, left_texts, part_taken}
+use Rattle.lic_rewriting.proofs.SectionTokens.{length-span_tokens}
 use Rattle.lic_rewriting.proofs.rewriting.Rewriting.take_lines.Goals as goal
 
--- there are as many tokens as places where one begins
-long : (at : ℕ) (places : TokenPlaces) → AreTokenPlaces at places → length (tokens_at at places) ≡ length places.starts
-long at places are = length-span_tokens true at at places.letters places.starts places.ends are.paired
+-- there are as many tokens as offsets where one begins
+long : (at : ℕ) (offsets : TokenOffsets) → AreTokenOffsets at offsets → length (tokens_at at offsets) ≡ length offsets.starts
+long at offsets are = length-span_tokens true at at offsets.letters offsets.starts offsets.ends are.paired
 
 pub loop-from-init : goal.loop-from-init
 loop-from-init c = record {
   within = omega arith;
-  places = c.requires.places;
+  offsets = c.requires.offsets;
   texts = c.requires.texts;
   taken = λ taken has. (
     [],
@@ -34,7 +34,7 @@ loop-from-init c = record {
 pub take_until-requires-clause-within : goal.take_until-requires-clause-within
 take_until-requires-clause-within c =
     let known = c.loop-from.invariant in
-    omega (arith, known.within, ap length c.of-stretch.ensures, long c.args.at c.loop-from.lines known.places)
+    omega (arith, known.within, ap length c.of-section.ensures, long c.args.at c.loop-from.lines known.offsets)
 
 pub take_until-requires-clause-before : goal.take_until-requires-clause-before
 take_until-requires-clause-before c =
@@ -49,14 +49,14 @@ overflow_sub-next c =
       ap length c.starts-in-loop-from.ensures,
       c.in_ok-next.ensures.from,
       c.max-part.ensures,
-      ap length c.of-stretch.ensures,
-      long c.args.at c.loop-from.lines known.places,
+      ap length c.of-section.ensures,
+      long c.args.at c.loop-from.lines known.offsets,
     )
 
 pub let_go-requires-clause-starts : goal.let_go-requires-clause-starts
 let_go-requires-clause-starts c =
     let known = c.loop-from.invariant in
-    omega (arith, c.in_ok-next.ensures.within, ap length c.of-stretch.ensures, long c.args.at c.loop-from.lines known.places)
+    omega (arith, c.in_ok-next.ensures.within, ap length c.of-section.ensures, long c.args.at c.loop-from.lines known.offsets)
 
 pub let_go-requires-clause-ends : goal.let_go-requires-clause-ends
 let_go-requires-clause-ends c =
@@ -64,9 +64,9 @@ let_go-requires-clause-ends c =
     omega (
       arith,
       c.in_ok-next.ensures.within,
-      ap length c.of-stretch.ensures,
-      long c.args.at c.loop-from.lines known.places,
-      known.places.paired,
+      ap length c.of-section.ensures,
+      long c.args.at c.loop-from.lines known.offsets,
+      known.offsets.paired,
     )
 
 pub loop-from-smaller : goal.loop-from-smaller
@@ -80,9 +80,9 @@ loop-from-smaller c =
       c.in_ok-next.ensures.from,
       c.in_ok-next.ensures.within,
       c.max-part.ensures,
-      ap length c.of-stretch.ensures,
-      long c.args.at c.loop-from.lines known.places,
-      ap (λ (p : TokenPlaces). length p.starts) c.let_go.ensures,
+      ap length c.of-section.ensures,
+      long c.args.at c.loop-from.lines known.offsets,
+      ap (λ (p : TokenOffsets). length p.starts) c.let_go.ensures,
       length-drop k c.loop-from.lines.starts,
     )
 
@@ -90,20 +90,20 @@ pub loop-from-preserved : goal.loop-from-preserved
 loop-from-preserved c =
     let at = c.args.at in
     let known = c.loop-from.invariant in
-    let places = c.loop-from.lines in
+    let offsets = c.loop-from.lines in
     let next = c.in_ok-next.next in
     let k = next - 1 in
     let part = c.in_ok-next.ensures in
-    let is : c.let_go.new.self ≡ left k places = c.let_go.ensures in
-    let count = long at places known.places in
-    let some : 0 < next = omega (arith, c.loop-from-test.true, ap length c.starts-in-loop-from.ensures, part.from, c.max-part.ensures, ap length c.of-stretch.ensures, count) in
-    let lt : k < length places.starts = omega (arith, some, part.within, ap length c.of-stretch.ensures, count) in
+    let is : c.let_go.new.self ≡ left k offsets = c.let_go.ensures in
+    let count = long at offsets known.offsets in
+    let some : 0 < next = omega (arith, c.loop-from-test.true, ap length c.starts-in-loop-from.ensures, part.from, c.max-part.ensures, ap length c.of-section.ensures, count) in
+    let lt : k < length offsets.starts = omega (arith, some, part.within, ap length c.of-section.ensures, count) in
     record {
-      within = omega (arith, lt, ap (λ (p : TokenPlaces). length p.starts) is, length-drop k places.starts);
-      places = subst (AreTokenPlaces at) (sym is) (left_places at places known.places k lt);
-      texts = subst (λ (p : TokenPlaces). HaveTexts (tokens_at at p)) (sym is) (left_texts at places known.places k lt known.texts);
-      taken = part_taken at places known.places k lt c.loop-from.from next c.of-stretch.result (tokens_at at c.args.lines.now) c.let_go.new.self c.args.self.now c.loop-from.self
-          c.take_until.new.self c.of-stretch.ensures is (omega (arith, some)) known.taken part.taken;
+      within = omega (arith, lt, ap (λ (p : TokenOffsets). length p.starts) is, length-drop k offsets.starts);
+      offsets = subst (AreTokenOffsets at) (sym is) (left_offsets at offsets known.offsets k lt);
+      texts = subst (λ (p : TokenOffsets). HaveTexts (tokens_at at p)) (sym is) (left_texts at offsets known.offsets k lt known.texts);
+      taken = part_taken at offsets known.offsets k lt c.loop-from.from next c.of-section.result (tokens_at at c.args.lines.now) c.let_go.new.self c.args.self.now c.loop-from.self
+          c.take_until.new.self c.of-section.ensures is (omega (arith, some)) known.taken part.taken;
       phrases = part.phrases ∙ known.phrases;
       emptied = part.emptied;
     }
@@ -112,6 +112,6 @@ pub returns-clause-taken : goal.returns-clause-taken
 returns-clause-taken c = λ taken has.
     let at = c.args.at in
     let known = c.loop-from.invariant in
-    let places = c.loop-from.lines in
-    all_taken (tokens_at at places) (tokens_at at c.args.lines.now) c.loop-from.from c.args.self.now c.loop-from.self known.taken
-    (omega (arith, c.loop-from-test.false, ap length c.starts-in-loop-from.ensures, long at places known.places)) taken has
+    let offsets = c.loop-from.lines in
+    all_taken (tokens_at at offsets) (tokens_at at c.args.lines.now) c.loop-from.from c.args.self.now c.loop-from.self known.taken
+    (omega (arith, c.loop-from-test.false, ap length c.starts-in-loop-from.ensures, long at offsets known.offsets)) taken has

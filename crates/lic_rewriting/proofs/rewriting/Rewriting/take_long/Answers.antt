@@ -15,8 +15,8 @@ use Rattle.lic_tokens.specs.Tokens.{HaveTexts}
 use Rattle.lic_rewriting.proofs.TokenTexts.{after-texts}
 use Rattle.lic_rewriting.proofs.rewriting.Rewriting.take_long.Goals as goal
 
-pub loop-place-init : goal.loop-place-init
-loop-place-init c = record {
+pub loop-offset-init : goal.loop-offset-init
+loop-offset-init c = record {
   within = c.requires.within;
   taken = λ taken has. (
     [],
@@ -33,15 +33,15 @@ loop-place-init c = record {
   emptied = c.clear.ensures.items;
 }
 
-pub loop-place-preserved-in-Blank : goal.loop-place-preserved-in-Blank
-loop-place-preserved-in-Blank c =
+pub loop-offset-preserved-in-Blank : goal.loop-offset-preserved-in-Blank
+loop-offset-preserved-in-Blank c =
     let rules = rules_of c.args.rules.now in
     let text = c.deref.result.now in
-    let same : text ≡ c.loop-place.characters.items = c.deref.ensures.value in
-    let place = c.loop-place.place in
-    let known = c.loop-place.invariant in
-    let here = take (length text - place) (drop place text) in
-    let rest : here ≡ drop place text = take_rest text place in
+    let same : text ≡ c.loop-offset.characters.items = c.deref.ensures.value in
+    let offset = c.loop-offset.offset in
+    let known = c.loop-offset.invariant in
+    let here = take (length text - offset) (drop offset text) in
+    let rest : here ≡ drop offset text = take_rest text offset in
     let stated : IsTextStart front.Blank (string_bytes c.start_of_text.new.letters) here =
     subst (λ f. IsTextStart f (string_bytes c.start_of_text.new.letters) here) c.in-Blank.is c.in_ok-start_of_text.ensures in
     record {
@@ -51,85 +51,85 @@ loop-place-preserved-in-Blank c =
             before.0,
             before.1,
             ap (λ l. before.0 ++ l)
-                (ap (λ l. text_tokens_after rules true (drop (place + 1) l)) (sym same)
-                ∙ ap (text_tokens_after rules true) (sym (ap (drop 1) rest ∙ drop-drop 1 place text))
-                ∙ stated rules c.loop-place.after_blank
-                ∙ ap (text_tokens_after rules c.loop-place.after_blank) (rest ∙ ap (drop place) same)) ∙ before.2,
+                (ap (λ l. text_tokens_after rules true (drop (offset + 1) l)) (sym same)
+                ∙ ap (text_tokens_after rules true) (sym (ap (drop 1) rest ∙ drop-drop 1 offset text))
+                ∙ stated rules c.loop-offset.after_blank
+                ∙ ap (text_tokens_after rules c.loop-offset.after_blank) (rest ∙ ap (drop offset) same)) ∙ before.2,
           );
       phrases = known.phrases;
       emptied = known.emptied;
     }
 
 pub take_text-requires-clause-before : goal.take_text-requires-clause-before
-take_text-requires-clause-before c = record { taken = _; has = (c.loop-place.invariant.taken c.requires.before.taken c.requires.before.has).1 }
+take_text-requires-clause-before c = record { taken = _; has = (c.loop-offset.invariant.taken c.requires.before.taken c.requires.before.has).1 }
 
 pub take_text-requires-clause-text : goal.take_text-requires-clause-text
 take_text-requires-clause-text c =
     let rules = rules_of c.args.rules.now in
     let text = c.deref.result.now in
-    let same : text ≡ c.loop-place.characters.items = c.deref.ensures.value in
-    let place = c.loop-place.place in
+    let same : text ≡ c.loop-offset.characters.items = c.deref.ensures.value in
+    let offset = c.loop-offset.offset in
     let n = c.in-Token.length in
-    let here = take (length text - place) (drop place text) in
+    let here = take (length text - offset) (drop offset text) in
     let stated : IsTextStart (front.Token n) (string_bytes c.start_of_text.new.letters) here =
     subst (λ f. IsTextStart f (string_bytes c.start_of_text.new.letters) here) c.in-Token.is c.in_ok-start_of_text.ensures in
     subst IsTokenText (sym c.as_str.ensures.value)
     (All-head (λ t. IsTokenText t.text) _ _
-    (subst HaveTexts (sym (stated.2 rules c.loop-place.after_blank none)) (after-texts rules c.loop-place.after_blank here)))
+    (subst HaveTexts (sym (stated.2 rules c.loop-offset.after_blank none)) (after-texts rules c.loop-offset.after_blank here)))
 
 pub take_front-requires-clause-before : goal.take_front-requires-clause-before
-take_front-requires-clause-before c = record { taken = _; has = (c.loop-place.invariant.taken c.requires.before.taken c.requires.before.has).1 }
+take_front-requires-clause-before c = record { taken = _; has = (c.loop-offset.invariant.taken c.requires.before.taken c.requires.before.has).1 }
 
-pub loop-place-preserved-in-Token : goal.loop-place-preserved-in-Token
-loop-place-preserved-in-Token c =
+pub loop-offset-preserved-in-Token : goal.loop-offset-preserved-in-Token
+loop-offset-preserved-in-Token c =
     let rules = rules_of c.args.rules.now in
     let text = c.deref.result.now in
-    let same : text ≡ c.loop-place.characters.items = c.deref.ensures.value in
-    let place = c.loop-place.place in
+    let same : text ≡ c.loop-offset.characters.items = c.deref.ensures.value in
+    let offset = c.loop-offset.offset in
     let n = c.in-Token.length in
-    let known = c.loop-place.invariant in
-    let here = take (length text - place) (drop place text) in
-    let rest : here ≡ drop place text = take_rest text place in
+    let known = c.loop-offset.invariant in
+    let here = take (length text - offset) (drop offset text) in
+    let rest : here ≡ drop offset text = take_rest text offset in
     let stated : IsTextStart (front.Token n) (string_bytes c.start_of_text.new.letters) here =
     subst (λ f. IsTextStart f (string_bytes c.start_of_text.new.letters) here) c.in-Token.is c.in_ok-start_of_text.ensures in
     let token_with = λ (letters : List ℕ). let t : Token = record {
       text = letters;
       start = (get_or here 0 none).start;
       end = (get_or here (n - 1) none).end;
-      after_blank = c.loop-place.after_blank;
+      after_blank = c.loop-offset.after_blank;
     } in t in
     let token = token_with c.as_str.result.now in
     let done = c.in_ok-take_text-in-Token.ensures in
     record {
-      within = c.let_go-place.ensures.within;
+      within = c.let_go-offset.ensures.within;
       taken = λ taken has.
           let before = known.taken taken has in (
             before.0 ++ token ∷ [],
             subst (HasTaken c.take_text.new.self) (append_assoc taken before.0 (token ∷ [])) (done.taken (taken ++ before.0) before.1),
             append_assoc before.0 (token ∷ []) _
                 ∙ ap (λ l. before.0 ++ l)
-                (ap (λ l. token ∷ text_tokens_after rules false l) (c.let_go-place.ensures.left ∙ ap (drop (place + n)) (sym same) ∙ sym (ap (drop n) rest ∙ drop-drop n place text))
+                (ap (λ l. token ∷ text_tokens_after rules false l) (c.let_go-offset.ensures.left ∙ ap (drop (offset + n)) (sym same) ∙ sym (ap (drop n) rest ∙ drop-drop n offset text))
                 ∙ ap (λ l. token_with l ∷ text_tokens_after rules false (drop n here)) c.as_str.ensures.value
-                ∙ stated.2 rules c.loop-place.after_blank none
-                ∙ ap (text_tokens_after rules c.loop-place.after_blank) (rest ∙ ap (drop place) same))
+                ∙ stated.2 rules c.loop-offset.after_blank none
+                ∙ ap (text_tokens_after rules c.loop-offset.after_blank) (rest ∙ ap (drop offset) same))
                 ∙ before.2,
           );
       phrases = c.take_text.ensures.phrases ∙ known.phrases;
       emptied = done.emptied;
     }
 
-pub loop-place-preserved : goal.loop-place-preserved
-loop-place-preserved c =
+pub loop-offset-preserved : goal.loop-offset-preserved
+loop-offset-preserved c =
     let rules = rules_of c.args.rules.now in
     let text = c.deref.result.now in
-    let same : text ≡ c.loop-place.characters.items = c.deref.ensures.value in
-    let place = c.loop-place.place in
-    let known = c.loop-place.invariant in
-    let rest : take (length text - place) (drop place text) ≡ drop place text = take_rest text place in
+    let same : text ≡ c.loop-offset.characters.items = c.deref.ensures.value in
+    let offset = c.loop-offset.offset in
+    let known = c.loop-offset.invariant in
+    let rest : take (length text - offset) (drop offset text) ≡ drop offset text = take_rest text offset in
     let part = c.in_ok-part-in-Other.part in
     let done = c.in_ok-part-in-Other.ensures in
     record {
-      within = c.let_go-place-in-Other.ensures.within;
+      within = c.let_go-offset-in-Other.ensures.within;
       taken = λ taken has.
           let before = known.taken taken has in
           let more = done.taken (taken ++ before.0) before.1 in (
@@ -137,57 +137,57 @@ loop-place-preserved c =
             subst (HasTaken c.take_front.new.self) (append_assoc taken before.0 more.0) more.1,
             append_assoc before.0 more.0 _
                 ∙ ap (λ l. before.0 ++ l) (ap (λ l. more.0 ++ text_tokens_after rules part.blank_after l)
-                (c.let_go-place-in-Other.ensures.left ∙ ap (drop (place + part.length)) (sym same) ∙ sym (ap (drop part.length) rest ∙ drop-drop part.length place text))
-                ∙ more.2 ∙ ap (text_tokens_after rules c.loop-place.after_blank) (rest ∙ ap (drop place) same))
+                (c.let_go-offset-in-Other.ensures.left ∙ ap (drop (offset + part.length)) (sym same) ∙ sym (ap (drop part.length) rest ∙ drop-drop part.length offset text))
+                ∙ more.2 ∙ ap (text_tokens_after rules c.loop-offset.after_blank) (rest ∙ ap (drop offset) same))
                 ∙ before.2,
           );
       phrases = c.take_front.ensures.phrases ∙ known.phrases;
       emptied = done.emptied;
     }
 
-pub loop-place-smaller-in-Token : goal.loop-place-smaller-in-Token
-loop-place-smaller-in-Token c =
+pub loop-offset-smaller-in-Token : goal.loop-offset-smaller-in-Token
+loop-offset-smaller-in-Token c =
     let text = c.deref.result.now in
-    let place = c.loop-place.place in
+    let offset = c.loop-offset.offset in
     let n = c.in-Token.length in
-    let here = take (length text - place) (drop place text) in
+    let here = take (length text - offset) (drop offset text) in
     let stated : IsTextStart (front.Token n) (string_bytes c.start_of_text.new.letters) here =
     subst (λ f. IsTextStart f (string_bytes c.start_of_text.new.letters) here) c.in-Token.is c.in_ok-start_of_text.ensures in
     omega (
       arith,
       stated.0,
       stated.1,
-      ap length (take_rest text place),
-      length-drop place text,
+      ap length (take_rest text offset),
+      length-drop offset text,
       ap length c.deref.ensures.value,
-      ap length c.let_go-place.ensures.left,
-      length-drop c.let_go-place.result c.let_go-place.new.characters.items,
-      length-drop (place + n) c.loop-place.characters.items,
+      ap length c.let_go-offset.ensures.left,
+      length-drop c.let_go-offset.result c.let_go-offset.new.characters.items,
+      length-drop (offset + n) c.loop-offset.characters.items,
     )
 
-pub loop-place-smaller : goal.loop-place-smaller
-loop-place-smaller c =
+pub loop-offset-smaller : goal.loop-offset-smaller
+loop-offset-smaller c =
     let text = c.deref.result.now in
-    let place = c.loop-place.place in
+    let offset = c.loop-offset.offset in
     let part = c.in_ok-part-in-Other.part in
     let done = c.in_ok-part-in-Other.ensures in
     omega (
       arith,
       done.some,
       done.within,
-      ap length (take_rest text place),
-      length-drop place text,
+      ap length (take_rest text offset),
+      length-drop offset text,
       ap length c.deref.ensures.value,
-      ap length c.let_go-place-in-Other.ensures.left,
-      length-drop c.let_go-place-in-Other.result c.let_go-place-in-Other.new.characters.items,
-      length-drop (place + part.length) c.loop-place.characters.items,
+      ap length c.let_go-offset-in-Other.ensures.left,
+      length-drop c.let_go-offset-in-Other.result c.let_go-offset-in-Other.new.characters.items,
+      length-drop (offset + part.length) c.loop-offset.characters.items,
     )
 
 pub returns-clause-taken : goal.returns-clause-taken
 returns-clause-taken c = λ taken has.
     let rules = rules_of c.args.rules.now in
-    let before = c.loop-place.invariant.taken taken has in
-    let none : text_tokens_after rules c.loop-place.after_blank (drop c.loop-place.place c.loop-place.characters.items) ≡ [] =
-    ap (text_tokens_after rules c.loop-place.after_blank) (drop_all c.loop-place.place c.loop-place.characters.items (omega (arith, c.loop-place-test.false)))
-    ∙ ap single_signs (no_tokens_after rules c.loop-place.after_blank) in
-    subst (λ ts. HasTaken c.loop-place.self (taken ++ ts)) (sym (append-nil before.0) ∙ ap (λ l. before.0 ++ l) (sym none) ∙ before.2) before.1
+    let before = c.loop-offset.invariant.taken taken has in
+    let none : text_tokens_after rules c.loop-offset.after_blank (drop c.loop-offset.offset c.loop-offset.characters.items) ≡ [] =
+    ap (text_tokens_after rules c.loop-offset.after_blank) (drop_all c.loop-offset.offset c.loop-offset.characters.items (omega (arith, c.loop-offset-test.false)))
+    ∙ ap single_signs (no_tokens_after rules c.loop-offset.after_blank) in
+    subst (λ ts. HasTaken c.loop-offset.self (taken ++ ts)) (sym (append-nil before.0) ∙ ap (λ l. before.0 ++ l) (sym none) ∙ before.2) before.1

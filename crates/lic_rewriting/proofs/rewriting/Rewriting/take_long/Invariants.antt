@@ -5,14 +5,14 @@ use Rattle.lic_rewriting.specs.Taking.{HasTaken}
 use Rattle.lic_rewriting.proofs.rewriting.Rewriting.take_long.Given as goal
 
 -- the tokens so far have been taken, and with those of what is left they are all
-abbrev pub invariant-loop-place : goal.invariant-loop-place
-invariant-loop-place l = record {
-  within : l.place ≤ length l.characters.items;
+abbrev pub invariant-loop-offset : goal.invariant-loop-offset
+invariant-loop-offset l = record {
+  within : l.offset ≤ length l.characters.items;
   taken : (taken : List Token) → HasTaken l.fn.self taken → (front : List Token) × HasTaken l.self (taken ++ front)
-      × (front ++ text_tokens_after (rules_of l.rules) l.after_blank (drop l.place l.characters.items) ≡ text_tokens_after (rules_of l.rules) true (drop l.from l.fn.characters.items));
+      × (front ++ text_tokens_after (rules_of l.rules) l.after_blank (drop l.offset l.characters.items) ≡ text_tokens_after (rules_of l.rules) true (drop l.from l.fn.characters.items));
   phrases : l.self.phrases.now ≡ l.fn.self.phrases.now;
   emptied : l.self.settled.items ≡ [];
 }
 
-abbrev pub decreases-loop-place : goal.decreases-loop-place
-decreases-loop-place l = length l.characters.items - l.place
+abbrev pub decreases-loop-offset : goal.decreases-loop-offset
+decreases-loop-offset l = length l.characters.items - l.offset

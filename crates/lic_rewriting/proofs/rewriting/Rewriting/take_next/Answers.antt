@@ -3,22 +3,22 @@ use Rattle.std.proofs.lemmas.List.Elements.{All-get_or}
 use Rattle.lic_columns.specs.PlainLines.{HasWords}
 use Rattle.lic_lines.specs.Tokens.{Token}
 use Rattle.lic_phrases.specs.TokenTexts.{IsTokenText}
-use Rattle.lic_rewriting.proofs.StretchTokens.{no_token, sign_taken, sign_within, token_taken}
+use Rattle.lic_rewriting.proofs.SectionTokens.{no_token, sign_taken, sign_within, token_taken}
 use Rattle.lic_rewriting.proofs.TakenSteps.{none_taken, one_taken}
 use Rattle.lic_rewriting.proofs.TokenTexts.{copyright_text}
 use Rattle.lic_rewriting.proofs.rewriting.Rewriting.take_next.Goals as goal
 
 pub returns-then-i-len-clause-taken : goal.returns-then-i-len-clause-taken
-returns-then-i-len-clause-taken c = none_taken c.args.stretch.now c.args.i c.args.self.now
+returns-then-i-len-clause-taken c = none_taken c.args.section.now c.args.i c.args.self.now
 
 pub overflow_add-i : goal.overflow_add-i
-overflow_add-i c = omega (arith, sign_within c.args.stretch.now c.args.i (sym c.is_sign.ensures ∙ c.if-is_sign.true), c.len.ensures)
+overflow_add-i c = omega (arith, sign_within c.args.section.now c.args.i (sym c.is_sign.ensures ∙ c.if-is_sign.true), c.len.ensures)
 
 pub overflow_add-result : goal.overflow_add-result
-overflow_add-result c = omega (arith, sign_within c.args.stretch.now c.args.i (sym c.is_sign.ensures ∙ c.if-is_sign.true), c.len.ensures)
+overflow_add-result c = omega (arith, sign_within c.args.section.now c.args.i (sym c.is_sign.ensures ∙ c.if-is_sign.true), c.len.ensures)
 
 pub end-requires : goal.end-requires
-end-requires c = sign_within c.args.stretch.now c.args.i (sym c.is_sign.ensures ∙ c.if-is_sign.true)
+end-requires c = sign_within c.args.section.now c.args.i (sym c.is_sign.ensures ∙ c.if-is_sign.true)
 
 pub push_text-requires-clause-before : goal.push_text-requires-clause-before
 push_text-requires-clause-before c = c.requires.before
@@ -28,12 +28,12 @@ push_text-requires-clause-text c = copyright_text
 
 pub returns-then-is_sign-clause-within : goal.returns-then-is_sign-clause-within
 returns-then-is_sign-clause-within c =
-    let within = sign_within c.args.stretch.now c.args.i (sym c.is_sign.ensures ∙ c.if-is_sign.true) in
+    let within = sign_within c.args.section.now c.args.i (sym c.is_sign.ensures ∙ c.if-is_sign.true) in
     omega (arith, within)
 
 pub returns-then-is_sign-clause-taken : goal.returns-then-is_sign-clause-taken
 returns-then-is_sign-clause-taken c =
-    let tokens = c.args.stretch.now in
+    let tokens = c.args.section.now in
     let i = c.args.i in
     let token : Token = record {
       text = codes "copyright";
@@ -48,11 +48,11 @@ returns-then-is_sign-clause-taken c =
 pub push_text-requires-2-clause-text : goal.push_text-requires-2-clause-text
 push_text-requires-2-clause-text c =
     subst IsTokenText (sym (c.utf8_text.ensures ∙ c.text-text.ensures.text no_token))
-    (All-get_or (λ t. IsTokenText t.text) c.args.stretch.now c.args.i no_token (omega (arith, c.if-i-len.false, c.len.ensures)) c.requires.texts)
+    (All-get_or (λ t. IsTokenText t.text) c.args.section.now c.args.i no_token (omega (arith, c.if-i-len.false, c.len.ensures)) c.requires.texts)
 
 pub returns-clause-taken : goal.returns-clause-taken
 returns-clause-taken c =
-    let tokens = c.args.stretch.now in
+    let tokens = c.args.section.now in
     let i = c.args.i in
     let token : Token = record {
       text = c.utf8_text.result.now;

@@ -2,61 +2,61 @@ use Rattle.std.proofs.Common.{◌<◌, ◌+◌, ◌-◌, length, get_or, refl, s
 use Rattle.std.proofs.lemmas.List.Elements.{All-get_or}
 use Rattle.lic_lines.specs.Tokens.{Token}
 use Rattle.lic_phrases.specs.TokenTexts.{IsTokenText}
-use Rattle.lic_rewriting.proofs.StretchTokens.{no_token, token_taken}
+use Rattle.lic_rewriting.proofs.SectionTokens.{no_token, token_taken}
 use Rattle.lic_rewriting.proofs.TakenSteps.{none_taken, one_taken, token_left}
 use Rattle.lic_rewriting.proofs.WordTexts.{begins-words, ends-words}
 use Rattle.lic_rewriting.proofs.rewriting.Rewriting.take_one.Goals as goal
 
 pub returns-then-i-len-clause-taken : goal.returns-then-i-len-clause-taken
-returns-then-i-len-clause-taken c = none_taken c.args.stretch.now c.args.i c.args.self.now
+returns-then-i-len-clause-taken c = none_taken c.args.section.now c.args.i c.args.self.now
 
 pub returns-in_default-clause-taken : goal.returns-in_default-clause-taken
-returns-in_default-clause-taken c = none_taken c.args.stretch.now c.args.i c.args.self.now
+returns-in_default-clause-taken c = none_taken c.args.section.now c.args.i c.args.self.now
 
 pub is_word_at-begins-requires : goal.is_word_at-begins-requires
 is_word_at-begins-requires c =
     let is : IsTokenText c.in-Some.text.now =
     subst IsTokenText (sym (c.in-Some.ensures.text no_token))
-    (All-get_or (λ t. IsTokenText t.text) c.args.stretch.now c.args.i no_token (omega (arith, c.if-i-len.false, c.len.ensures)) c.requires.texts) in
+    (All-get_or (λ t. IsTokenText t.text) c.args.section.now c.args.i no_token (omega (arith, c.if-i-len.false, c.len.ensures)) c.requires.texts) in
     is.not_empty
 
 pub overflow_sub-text : goal.overflow_sub-text
 overflow_sub-text c =
     let is : IsTokenText c.in-Some.text.now =
     subst IsTokenText (sym (c.in-Some.ensures.text no_token))
-    (All-get_or (λ t. IsTokenText t.text) c.args.stretch.now c.args.i no_token (omega (arith, c.if-i-len.false, c.len.ensures)) c.requires.texts) in
+    (All-get_or (λ t. IsTokenText t.text) c.args.section.now c.args.i no_token (omega (arith, c.if-i-len.false, c.len.ensures)) c.requires.texts) in
     omega (arith, is.not_empty)
 
 pub is_word_at-ends-requires : goal.is_word_at-ends-requires
 is_word_at-ends-requires c =
     let is : IsTokenText c.in-Some.text.now =
     subst IsTokenText (sym (c.in-Some.ensures.text no_token))
-    (All-get_or (λ t. IsTokenText t.text) c.args.stretch.now c.args.i no_token (omega (arith, c.if-i-len.false, c.len.ensures)) c.requires.texts) in
+    (All-get_or (λ t. IsTokenText t.text) c.args.section.now c.args.i no_token (omega (arith, c.if-i-len.false, c.len.ensures)) c.requires.texts) in
     omega (arith, is.not_empty)
 
 pub push_bytes-requires-clause-text : goal.push_bytes-requires-clause-text
 push_bytes-requires-clause-text c =
     subst IsTokenText (sym (c.in-Some.ensures.text no_token))
-    (All-get_or (λ t. IsTokenText t.text) c.args.stretch.now c.args.i no_token (omega (arith, c.if-i-len.false, c.len.ensures)) c.requires.texts)
+    (All-get_or (λ t. IsTokenText t.text) c.args.section.now c.args.i no_token (omega (arith, c.if-i-len.false, c.len.ensures)) c.requires.texts)
 
 pub push_bytes-requires-clause-begins : goal.push_bytes-requires-clause-begins
 push_bytes-requires-clause-begins c =
     let is : IsTokenText c.in-Some.text.now =
     subst IsTokenText (sym (c.in-Some.ensures.text no_token))
-    (All-get_or (λ t. IsTokenText t.text) c.args.stretch.now c.args.i no_token (omega (arith, c.if-i-len.false, c.len.ensures)) c.requires.texts) in
+    (All-get_or (λ t. IsTokenText t.text) c.args.section.now c.args.i no_token (omega (arith, c.if-i-len.false, c.len.ensures)) c.requires.texts) in
     c.is_word_at-begins.ensures ∙ begins-words c.in-Some.text.now c.in-Some.ensures.utf8 c.in-Some.ensures.words is.not_empty
 
 pub push_bytes-requires-clause-ends : goal.push_bytes-requires-clause-ends
 push_bytes-requires-clause-ends c =
     let is : IsTokenText c.in-Some.text.now =
     subst IsTokenText (sym (c.in-Some.ensures.text no_token))
-    (All-get_or (λ t. IsTokenText t.text) c.args.stretch.now c.args.i no_token (omega (arith, c.if-i-len.false, c.len.ensures)) c.requires.texts) in
+    (All-get_or (λ t. IsTokenText t.text) c.args.section.now c.args.i no_token (omega (arith, c.if-i-len.false, c.len.ensures)) c.requires.texts) in
     c.is_word_at-ends.ensures
     ∙ ends-words c.in-Some.text.now (length c.in-Some.text.now - 1) c.in-Some.ensures.utf8 c.in-Some.ensures.words (omega (arith, is.not_empty))
 
 pub returns-clause-taken : goal.returns-clause-taken
 returns-clause-taken c =
-    let tokens = c.args.stretch.now in
+    let tokens = c.args.section.now in
     let i = c.args.i in
     let lt : i < length tokens = omega (arith, c.if-i-len.false, c.len.ensures) in
     let token : Token = record {

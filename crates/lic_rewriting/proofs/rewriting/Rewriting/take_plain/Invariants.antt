@@ -7,12 +7,12 @@ use Rattle.lic_rewriting.proofs.rewriting.Rewriting.take_plain.Given as goal
 abbrev pub invariant-loop-next : goal.invariant-loop-next
 invariant-loop-next l = record {
   from : l.i ≤ l.next;
-  within : l.next ≤ length l.stretch;
-  taken : HasTakenUpTo l.stretch l.i l.next l.fn.self l.self;
+  within : l.next ≤ length l.section;
+  taken : HasTakenUpTo l.section l.i l.next l.fn.self l.self;
   none : l.self.rewriter ≡ nothing_kept;
   phrases : l.self.phrases.now ≡ l.fn.self.phrases.now;
   settled : l.self.settled.items ≡ l.fn.self.settled.items;
 }
 
 abbrev pub decreases-loop-next : goal.decreases-loop-next
-decreases-loop-next l = length l.stretch - l.next
+decreases-loop-next l = length l.section - l.next

@@ -5,7 +5,7 @@ use Rattle.lic_rewriting.proofs.rewriting.Rewriting.take_until.Goals as goal
 pub loop-next-init : goal.loop-next-init
 loop-next-init c = record {
   within = c.requires.within;
-  taken = none_taken c.args.stretch.now c.args.from c.args.self.now;
+  taken = none_taken c.args.section.now c.args.from c.args.self.now;
   phrases = refl;
   emptied = c.requires.emptied;
 }
@@ -17,7 +17,7 @@ take_next-requires-clause-before c =
 
 pub loop-next-preserved : goal.loop-next-preserved
 loop-next-preserved c =
-    let tokens = c.args.stretch.now in
+    let tokens = c.args.section.now in
     let known = c.loop-next.invariant in
     record {
       within = c.in_ok-next-2.ensures.within;

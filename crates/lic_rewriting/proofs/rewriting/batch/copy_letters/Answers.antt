@@ -4,20 +4,20 @@ use Rattle.std.proofs.lemmas.Simd.{take_more_put_chunk}
 use lib.Lanes.{put_chunk}
 use Rattle.lic_rewriting.proofs.rewriting.batch.copy_letters.Goals as goal
 
--- n letters that are stored at a place
-stored : (bytes letters : List ℕ) (place wide n : ℕ) → wide ≡ n → place + wide ≤ length bytes → wide ≤ length letters
-    → take (place + wide) (put_chunk place bytes (take n letters)) ≡ take place bytes ++ take wide letters
-stored bytes letters place wide n is fits long =
+-- n letters that are stored at an offset
+stored : (bytes letters : List ℕ) (offset wide n : ℕ) → wide ≡ n → offset + wide ≤ length bytes → wide ≤ length letters
+    → take (offset + wide) (put_chunk offset bytes (take n letters)) ≡ take offset bytes ++ take wide letters
+stored bytes letters offset wide n is fits long =
     let copied : length (take n letters) ≡ n = length-take-le n letters (omega (arith, is, long)) in
-    take_more_put_chunk place bytes (take n letters) (place + wide) (omega (arith, is, copied)) fits ∙ ap (λ m. take place bytes ++ take m letters) (sym is)
+    take_more_put_chunk offset bytes (take n letters) (offset + wide) (omega (arith, is, copied)) fits ∙ ap (λ m. take offset bytes ++ take m letters) (sym is)
 
 pub returns-then-wide-eq-COPIED-clause-copied : goal.returns-then-wide-eq-COPIED-clause-copied
 returns-then-wide-eq-COPIED-clause-copied c =
-    stored c.args.bytes.now c.args.letters.now c.args.place c.args.wide 16 c.if-wide-eq-COPIED.true c.requires.fits c.requires.long
+    stored c.args.bytes.now c.args.letters.now c.args.offset c.args.wide 16 c.if-wide-eq-COPIED.true c.requires.fits c.requires.long
 
 pub returns-else-wide-eq-COPIED-clause-copied : goal.returns-else-wide-eq-COPIED-clause-copied
 returns-else-wide-eq-COPIED-clause-copied c =
     elim c.requires.lanes [
       | inl e ↦ absurd (c.if-wide-eq-COPIED.false e)
-      | inr e ↦ stored c.args.bytes.now c.args.letters.now c.args.place c.args.wide 32 e c.requires.fits c.requires.long
+      | inr e ↦ stored c.args.bytes.now c.args.letters.now c.args.offset c.args.wide 32 e c.requires.fits c.requires.long
     ]

@@ -4,5 +4,5 @@ use Rattle.lic_rewriting.proofs.rewriting.batch.put.Goals as goal
 
 pub returns-clause-bytes : goal.returns-clause-bytes
 returns-clause-bytes c =
-    written c.args.bytes.now c.args.letters.now c.args.place c.args.len c.args.wide (omega (arith, c.requires.fits)) c.requires.long c.requires.short c.args.blank
-    (c.args.place + c.from.result) _ (ap (λ n. c.args.place + n) c.from.ensures) c.copy_letters.ensures.copied
+    written c.args.bytes.now c.args.letters.now c.args.offset c.args.len c.args.wide (omega (arith, c.requires.fits)) c.requires.long c.requires.short c.args.blank
+    (c.args.offset + c.from.result) _ (ap (λ n. c.args.offset + n) c.from.ensures) c.copy_letters.ensures.copied

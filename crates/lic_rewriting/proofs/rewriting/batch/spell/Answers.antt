@@ -2,21 +2,21 @@ use Rattle.std.proofs.Common.{◌≡◌, ◌+◌, [], length, ap, sym, ◌∙◌
 use Rattle.lic_phrases.specs.Spelling.{ends_in_word}
 use Rattle.lic_rewriting.specs.Batches.{AreInBatch, HasSpelledUpTo}
 use Rattle.lic_rewriting.proofs.BatchLemmas.{none_spelled_yet}
-use Rattle.lic_rewriting.proofs.StretchTokens.{no_token}
+use Rattle.lic_rewriting.proofs.SectionTokens.{no_token}
 use Rattle.lic_rewriting.proofs.rewriting.batch.spell.Goals as goal
 use Rattle.lic_rewriting.proofs.rewriting.batch.spell.Goals.{After-after_word}
 
 -- none is in it yet
-none_yet : (c : After-after_word) → AreInBatch c.args.stretch.now c.args.i c.args.rewriting.now c.args.batch.now
-    (record { count = 0; place = 0; after_word = c.after_word.result })
+none_yet : (c : After-after_word) → AreInBatch c.args.section.now c.args.i c.args.rewriting.now c.args.batch.now
+    (record { count = 0; offset = 0; after_word = c.after_word.result })
 none_yet c =
     let i = c.args.i in
     let none : i ≡ i + 0 = omega arith in
     record {
       short = omega arith;
       utf8 = c.after_word.ensures.utf8;
-      holds = subst (λ n. HasSpelledUpTo c.args.stretch.now i n c.args.rewriting.now [] []) none
-          (none_spelled_yet c.args.stretch.now i c.args.rewriting.now);
+      holds = subst (λ n. HasSpelledUpTo c.args.section.now i n c.args.rewriting.now [] []) none
+          (none_spelled_yet c.args.section.now i c.args.rewriting.now);
       word = c.after_word.ensures.word ∙ ap ends_in_word (sym (append-nil _));
     }
 

@@ -6,7 +6,7 @@ use Rattle.lic_rewriting.proofs.rewriting.batch.spell.Given as goal
 abbrev pub invariant-loop-state : goal.invariant-loop-state
 invariant-loop-state l = record {
   within : l.state.count ≤ l.most;
-  held : AreInBatch l.stretch l.i l.rewriting l.batch l.state;
+  held : AreInBatch l.section l.i l.rewriting l.batch l.state;
 }
 
 abbrev pub decreases-loop-state : goal.decreases-loop-state

@@ -7,7 +7,7 @@ abbrev pub invariant-loop-count : goal.invariant-loop-count
 invariant-loop-count l = record {
   grown : l.fn.state.count ≤ l.count;
   within : l.count ≤ l.most;
-  held : AreInBatch l.stretch l.i l.rewriting l.batch (record { count = l.count; place = l.place; after_word = l.after_word });
+  held : AreInBatch l.section l.i l.rewriting l.batch (record { count = l.count; offset = l.offset; after_word = l.after_word });
 }
 
 abbrev pub decreases-loop-count : goal.decreases-loop-count

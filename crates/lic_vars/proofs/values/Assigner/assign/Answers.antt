@@ -19,14 +19,14 @@ least_values-requires-clause-can c =
     let is = c.requires.is_match in
     let tokens = c.args.text.now.tokens in
     let triple = c.args.triple in
-    let moved : moves_of own.steps.items ≡ moves (nodes_of is.known) =
-    moves-of own.set.now own.template own.steps.items v triple.template is.known c.self.invariant c.self.view_is c.requires.template is.number in
+    let moved : moves_of own.instructions.items ≡ moves (nodes_of is.known) =
+    moves-of own.set.now own.template own.instructions.items v triple.template is.known c.self.invariant c.self.view_is c.requires.template is.number in
     let part : c.of-view.result ≡ slice_range tokens triple.first (triple.last + 1) =
     tokens-of tokens c.of-view.result triple.first triple.last (triple.last - triple.first + 1) is.order refl
     (c.of-view.ensures ∙ ap (λ (l : List TokenValue). slice_range l triple.first (triple.first + (triple.last - triple.first + 1))) c.tokens.ensures) in
     let some = some-tokens tokens c.of-view.result triple.first triple.last is.order is.within part in
     rw c.deref-2.ensures.value
-    (match-can v.set tokens c.of-view.result triple is.known own.steps.items is is.number moved c.tokens_have_texts.ensures some part)
+    (match-can v.set tokens c.of-view.result triple is.known own.instructions.items is is.number moved c.tokens_have_texts.ensures some part)
 
 pub returns : goal.returns
 returns c =
@@ -35,8 +35,8 @@ returns c =
     let is = c.requires.is_match in
     let tokens = c.args.text.now.tokens in
     let triple = c.args.triple in
-    let moved : moves_of own.steps.items ≡ moves (nodes_of is.known) =
-    moves-of own.set.now own.template own.steps.items v triple.template is.known c.self.invariant c.self.view_is c.requires.template is.number in
+    let moved : moves_of own.instructions.items ≡ moves (nodes_of is.known) =
+    moves-of own.set.now own.template own.instructions.items v triple.template is.known c.self.invariant c.self.view_is c.requires.template is.number in
     let part : c.of-view.result ≡ slice_range tokens triple.first (triple.last + 1) =
     tokens-of tokens c.of-view.result triple.first triple.last (triple.last - triple.first + 1) is.order refl
     (c.of-view.ensures ∙ ap (λ (l : List TokenValue). slice_range l triple.first (triple.first + (triple.last - triple.first + 1))) c.tokens.ensures) in
@@ -44,7 +44,7 @@ returns c =
     ok-then c.least_values.result _ _ c.least_values.ensures
     (λ x h.
     let found = rw (c.deref-2.ensures.value, c.deref-3.ensures.value) at h in
-    assigned v.set tokens c.of-view.result triple is.known own.steps.items c.in_ok-letters.letters.items found.numbers
+    assigned v.set tokens c.of-view.result triple is.known own.instructions.items c.in_ok-letters.letters.items found.numbers
     (map value_of x.items) is.number moved c.tokens_have_texts.ensures some part
     c.in_ok-letters.ensures found.least found.same)
 
@@ -55,8 +55,8 @@ returns-then-not-has_variable c =
     let is = c.requires.is_match in
     let tokens = c.args.text.now.tokens in
     let triple = c.args.triple in
-    let moved : moves_of own.steps.items ≡ moves (nodes_of is.known) =
-    moves-of own.set.now own.template own.steps.items v triple.template is.known c.self.invariant c.self.view_is c.requires.template is.number in
+    let moved : moves_of own.instructions.items ≡ moves (nodes_of is.known) =
+    moves-of own.set.now own.template own.instructions.items v triple.template is.known c.self.invariant c.self.view_is c.requires.template is.number in
     let none = rw c.deref.ensures.value at (c.has_variable.ensures c.if-not-has_variable.true) in
     subst (λ (x : List Value). AreValues v.set tokens triple (map value_of x)) (sym c.new.ensures.items)
-    (no-values v.set tokens triple own.steps.items is moved none)
+    (no-values v.set tokens triple own.instructions.items is moved none)

@@ -1,4 +1,4 @@
--- The steps of the template of the number.
+-- The instructions of the template of the number.
 use Rattle.std.proofs.Common.{List, map, ap, ◌∙◌}
 use Rattle.lic_markup.specs.declared.part.Part.{Part}
 use Rattle.lic_markup.specs.Parts.{TemplateValue, sequence, part_of}
@@ -8,9 +8,9 @@ use Rattle.lic_vars.proofs.values.Assigner.new.Goals as goal
 
 pub invariant_of-result : goal.invariant_of-result
 invariant_of-result c = record {
-  pieces = c.in_ok-steps.ensures.pieces;
+  pieces = c.in_ok-instructions.ensures.pieces;
   moves = λ known number.
       let parts = parts-of c.args.set.now c.args.template known c.parts.result.now number
       (λ d. c.parts.ensures ∙ ap (λ (t : TemplateValue). t.parts) (c.template-parsed.ensures d)) in
-      c.in_ok-steps.ensures.moves ∙ ap (λ (ps : List Part). moves (sequence (map part_of ps))) parts;
+      c.in_ok-instructions.ensures.moves ∙ ap (λ (ps : List Part). moves (sequence (map part_of ps))) parts;
 }

@@ -1,11 +1,11 @@
 -- The windows around one offset more are noted.
 use Rattle.std.proofs.Common.{◌+◌, ◌≤◌, sym, ◌∙◌, subst, arith}
 use Rattle.std.proofs.lemmas.Bool.{false≢true}
-use Rattle.lic_literals.specs.Hashes.{gram_mark, hash_of}
-use Rattle.lic_literals.specs.Marks.{Has}
+use Rattle.lic_literals.specs.Hashes.{gram_flag, hash_of}
+use Rattle.lic_literals.specs.Flags.{Has}
 use Rattle.lic_literals.specs.Sizes.{gram_at}
 use Rattle.lic_literals.specs.Tables.{NotesWhere}
-use Rattle.lic_literals.proofs.TableLemmas.{all_done, all_more, gram_marked, none_noted}
+use Rattle.lic_literals.proofs.TableLemmas.{all_done, all_more, gram_flagged, none_noted}
 use Rattle.lic_literals.proofs.tables.table.Table.note_all.Goals as goal
 use Rattle.lic_literals.proofs.tables.table.Table.note_all.Goals.{then-has+in_ok-note_around, else-has}
 
@@ -28,11 +28,11 @@ loop-offset-preserved g c =
                 subst (NotesWhere table bytes (λ p. p + g.row.STEP ≤ offset + g.row.STEP) c.args.hits.now) (sym w.hits-is)
                 (more old (λ i p h. h) offset c.loop-offset.invariant.notes
                 (λ v i p has occurs a b.
-                let marked : Has table.grams (gram_mark (hash_of (gram_at g.row.GRAM bytes offset))) =
-                (gram_marked table bytes c.requires.sizes v i p offset has occurs a b).anywhere in
-                let same : Has table.grams c.mark_of.result =
-                subst (Has table.grams) (sym c.mark_of.ensures.value)
-                (subst (λ h. Has table.grams (gram_mark h)) (sym c.hash-hash.ensures) marked) in
+                let flagged : Has table.grams (gram_flag (hash_of (gram_at g.row.GRAM bytes offset))) =
+                (gram_flagged table bytes c.requires.sizes v i p offset has occurs a b).anywhere in
+                let same : Has table.grams c.flag_of.result =
+                subst (Has table.grams) (sym c.flag_of.ensures.value)
+                (subst (λ h. Has table.grams (gram_flag h)) (sym c.hash-hash.ensures) flagged) in
                 absurd (false≢true (sym w.if-has.false ∙ c.has.ensures.1 same))))
           ];
     }

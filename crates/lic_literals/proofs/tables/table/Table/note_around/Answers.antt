@@ -1,11 +1,11 @@
 -- A window that begins one offset earlier is noted, if it is there.
 use Rattle.std.proofs.Common.{◌≡◌, ℕ, ◌+◌, ◌-◌, sym, ◌∙◌, subst, arith}
 use Rattle.std.proofs.lemmas.Bool.{false≢true}
-use Rattle.lic_literals.specs.Hashes.{hash_of, start_mark}
-use Rattle.lic_literals.specs.Marks.{Has}
+use Rattle.lic_literals.specs.Hashes.{hash_of, start_flag}
+use Rattle.lic_literals.specs.Flags.{Has}
 use Rattle.lic_literals.specs.Sizes.{gram_at}
 use Rattle.lic_literals.specs.Tables.{NotesWhere}
-use Rattle.lic_literals.proofs.TableLemmas.{IsLate, around_more, gram_marked}
+use Rattle.lic_literals.proofs.TableLemmas.{IsLate, around_more, gram_flagged}
 use Rattle.lic_literals.proofs.tables.table.Table.note_around.Goals as goal
 use Rattle.lic_literals.proofs.tables.table.Table.note_around.Goals.{then-start-offset+then-has+in_ok-note_at, else-start-offset, else-start-offset-via-then-start-offset+else-has, else-start-offset-via-else-start-offset}
 
@@ -27,16 +27,16 @@ loop-back-preserved g c =
           (λ v i p has occurs a b here.
           let start : ℕ = g.row.STEP - 1 - c.loop-back.back in
           let at : offset - p ≡ start = omega arith in
-          let marked = gram_marked table bytes c.requires.sizes v i p offset has occurs a b in
+          let flagged = gram_flagged table bytes c.requires.sizes v i p offset has occurs a b in
           absurd
           (elim w.else-start-offset.branch [
             | else-start-offset-via-then-start-offset+else-has u ↦
-                let mark : start_mark c.args.hash start ≡ u.start_mark_of.result = sym u.start_mark_of.ensures.value in
-                let there : Has table.starts (start_mark (hash_of (gram_at g.row.GRAM bytes offset)) (offset - p)) = marked.there in
-                let same : Has table.starts u.start_mark_of.result =
-                subst (Has table.starts) mark
-                (subst (λ s. Has table.starts (start_mark c.args.hash s)) at
-                (subst (λ h. Has table.starts (start_mark h (offset - p))) (sym c.requires.hash) there)) in
+                let flag : start_flag c.args.hash start ≡ u.start_flag_of.result = sym u.start_flag_of.ensures.value in
+                let there : Has table.starts (start_flag (hash_of (gram_at g.row.GRAM bytes offset)) (offset - p)) = flagged.there in
+                let same : Has table.starts u.start_flag_of.result =
+                subst (Has table.starts) flag
+                (subst (λ s. Has table.starts (start_flag c.args.hash s)) at
+                (subst (λ h. Has table.starts (start_flag h (offset - p))) (sym c.requires.hash) there)) in
                 false≢true (sym u.if-has.false ∙ u.has.ensures.1 same)
             | else-start-offset-via-else-start-offset u ↦ omega arith
           ])))

@@ -1,9 +1,0 @@
-use Rattle.std.proofs.Common.{◌≡◌, ◌+◌, ◌-◌, ◌%◌, ◌<◌, ◌≤◌, length}
-use Rattle.lic_columns.proofs.PlaceLists.{IsWritten}
-use Rattle.lic_columns.proofs.places.put_places.Given as goal
-
-abbrev pub invariant-loop-rest : goal.invariant-loop-rest
-invariant-loop-rest l = (0 < l.rest → l.i + 4 ≤ 64) × (l.i % 4 ≡ 0) × (length l.out ≡ length l.initial.out) × IsWritten l.at l.mask l.n l.i l.rest l.initial.out l.out
-
-abbrev pub decreases-loop-rest : goal.decreases-loop-rest
-decreases-loop-rest l = 64 - l.i

@@ -1,5 +1,0 @@
-use Rattle.lic_rewriting.proofs.StretchTokens.{count}
-use Rattle.lic_rewriting.proofs.stretch.Stretch.len.Goals as goal
-
-pub returns : goal.returns
-returns c = let s = c.self.inside in count s.at s.letters.now s.starts.now s.ends.now c.args.self.now c.self.invariant.are.paired c.self.view_is
