@@ -4,9 +4,9 @@ pub mod MatchSpans
 pub mod MatchLists
 pub mod MatchLemmas
 pub mod BundleLemmas
-pub mod WindowBounds
-pub mod WindowEnds
-pub mod WindowLemmas
+pub mod ReachBounds
+pub mod EndLists
+pub mod ReachLemmas
 pub mod CopyWords
 pub mod CopyLemmas
 pub mod TemplateMatches

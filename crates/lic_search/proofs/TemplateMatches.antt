@@ -19,7 +19,7 @@ use Rattle.lic_set.specs.Sets.{Known, words_of}
 use Rattle.lic_set.specs.Matches.{IsMatch, letters_between}
 use Rattle.lic_set.specs.declared.triple.Triple.{Triple}
 use Rattle.lic_search.specs.Matches.{DescribesRange, range_of}
-use Rattle.lic_search.specs.Windows.{AreRequiredEnds}
+use Rattle.lic_search.specs.Ends.{AreRequiredEnds}
 use Rattle.lic_search.specs.declared.range.Range.{Range}
 
 -- a range as a triple of a template

@@ -1,6 +1,6 @@
 pub mod Copies
 pub mod Matches
 pub mod Beginnings
-pub mod Windows
+pub mod Ends
 pub mod AllMatches
 pub mod LeastMatches

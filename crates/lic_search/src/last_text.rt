@@ -5,7 +5,7 @@ ghost use Rattle.lic_keys.specs.Required.{HasLetters};
 ghost use Rattle.lic_markup.specs.PartTexts.{HavePieceTexts};
 ghost use Rattle.lic_markup.specs.Parts.{part_of, sequence};
 ghost use Rattle.lic_places.specs.Places.{spelling_of};
-ghost use Rattle.lic_search.specs.Windows.{AreRequiredEnds};
+ghost use Rattle.lic_search.specs.Ends.{AreRequiredEnds};
 
 use crate::reach::most_bytes;
 use lic_keys::RequiredEnds;

@@ -5,13 +5,13 @@ mod all;
 mod backward;
 mod bundles;
 mod copies;
+mod ends;
 mod last_text;
 mod matches;
 mod range;
 mod reach;
 mod search;
 mod tight;
-mod windows;
 
 pub use all::{BundledMatches, all_matches};
 pub use tight::tight_matches;

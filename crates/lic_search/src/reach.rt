@@ -8,7 +8,7 @@ ghost use Rattle.lic_words.specs.Expressions.{letters};
 ghost use Rattle.lic_ere.specs.Meaning.{choice_words, sequence_words, tree_words};
 ghost use Rattle.lic_markup.specs.Meaning.{part_words, parts_words};
 ghost use Rattle.lic_markup.specs.Parts.{part_of};
-ghost use Rattle.lic_search.specs.Windows.{HasAtMost, TakesAtMost};
+ghost use Rattle.lic_search.specs.Ends.{HasAtMost, TakesAtMost};
 
 use lic_ere::Ere;
 use lic_markup::Part;

@@ -13,14 +13,14 @@ ghost use Rattle.lic_search.specs.AllMatches.{AreBundlesOf};
 ghost use Rattle.lic_view.specs.Backward.{IsBackFrom};
 ghost use Rattle.lic_search.specs.Matches.{HasLeastRanges};
 ghost use Rattle.lic_view.specs.PlaceSets.{ArePlaced, Reaches};
-ghost use Rattle.lic_search.specs.Windows.{AreRequiredEnds};
+ghost use Rattle.lic_search.specs.Ends.{AreRequiredEnds};
 
 use crate::backward::over_parts;
 use crate::bundles::bundles_of;
+use crate::ends::candidate_ends;
 use crate::last_text::last_ends;
 use crate::matches::{ranges_of, token_ends};
 use crate::range::Range;
-use crate::windows::candidate_ends;
 use lic_bundles::Bundle;
 use lic_keys::RequiredEnds;
 use lic_markup::Part;

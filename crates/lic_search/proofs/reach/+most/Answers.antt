@@ -3,8 +3,8 @@ use Rattle.std.proofs.Common.{◌≡◌, ◌+◌, ◌*◌, ◌<◌, arith, map, 
 use Rattle.std.proofs.lemmas.List.{take_all}
 use Rattle.lic_markup.specs.Meaning.{part_words, parts_words}
 use Rattle.lic_markup.specs.Parts.{part_of}
-use Rattle.lic_search.specs.Windows.{TakesAtMost}
-use Rattle.lic_search.proofs.WindowBounds.{bytes-parts, bytes-variable, most_number}
+use Rattle.lic_search.specs.Ends.{TakesAtMost}
+use Rattle.lic_search.proofs.ReachBounds.{bytes-parts, bytes-variable, most_number}
 use Rattle.lic_search.proofs.reach.+most.Goals as goal
 
 pub most_bytes-loop-part-preserved : goal.most_bytes-loop-part-preserved

@@ -2,7 +2,7 @@
 use Rattle.std.proofs.Common.{◌<◌, map, take}
 use Rattle.lic_markup.specs.Meaning.{parts_words}
 use Rattle.lic_markup.specs.Parts.{part_of}
-use Rattle.lic_search.specs.Windows.{TakesAtMost}
+use Rattle.lic_search.specs.Ends.{TakesAtMost}
 use Rattle.lic_search.proofs.reach.+most.Given as goal
 
 abbrev pub invariant-most_bytes-loop-part : goal.invariant-most_bytes-loop-part

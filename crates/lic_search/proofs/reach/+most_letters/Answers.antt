@@ -3,8 +3,8 @@ use Rattle.std.proofs.Common.{◌≡◌, ◌+◌, ◌<◌, arith, map, subst, sy
 use Rattle.std.proofs.lemmas.List.{take_all}
 use Rattle.lic_ere.specs.Trees.{sequence, tree_of}
 use Rattle.lic_ere.specs.Meaning.{choice_words, sequence_words, tree_words}
-use Rattle.lic_search.specs.Windows.{HasAtMost}
-use Rattle.lic_search.proofs.WindowBounds.{letters-alt, letters-cat, letters-choice, letters-more, letters-repetition, letters-sequence, most_number}
+use Rattle.lic_search.specs.Ends.{HasAtMost}
+use Rattle.lic_search.proofs.ReachBounds.{letters-alt, letters-cat, letters-choice, letters-more, letters-repetition, letters-sequence, most_number}
 use Rattle.lic_search.proofs.reach.+most_letters.Goals as goal
 
 pub most_letters-returns-in-Repeat : goal.most_letters-returns-in-Repeat

@@ -2,7 +2,7 @@
 use Rattle.std.proofs.Common.{◌<◌, map, take}
 use Rattle.lic_ere.specs.Trees.{sequence, tree_of}
 use Rattle.lic_ere.specs.Meaning.{choice_words, sequence_words}
-use Rattle.lic_search.specs.Windows.{HasAtMost}
+use Rattle.lic_search.specs.Ends.{HasAtMost}
 use Rattle.lic_search.proofs.reach.+most_letters.Given as goal
 
 abbrev pub invariant-most_choice_letters-loop-sub : goal.invariant-most_choice_letters-loop-sub

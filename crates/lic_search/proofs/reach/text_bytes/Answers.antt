@@ -1,5 +1,5 @@
 -- A text takes its bytes.
-use Rattle.lic_search.proofs.WindowBounds.{bytes-text}
+use Rattle.lic_search.proofs.ReachBounds.{bytes-text}
 use Rattle.lic_search.proofs.reach.text_bytes.Goals as goal
 
 pub returns : goal.returns

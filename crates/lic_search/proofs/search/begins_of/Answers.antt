@@ -3,7 +3,7 @@ use Rattle.std.proofs.Common.{map}
 use Rattle.lic_words.specs.Expressions.{Language}
 use Rattle.lic_markup.specs.Meaning.{parts_words}
 use Rattle.lic_markup.specs.Parts.{part_of}
-use Rattle.lic_search.proofs.WindowLemmas.{back-from-candidates}
+use Rattle.lic_search.proofs.ReachLemmas.{back-from-candidates}
 use Rattle.lic_search.proofs.search.begins_of.Goals as goal
 
 pub returns : goal.returns

@@ -1,4 +1,4 @@
-//! Ends of tokens in windows after the places where a text of a template ends.
+//! Ends of tokens up to some bytes after the places where a text of a template ends.
 
 ghost use Rattle.std.specs.Prelude.{◌≡◌, ◌+◌, ◌≤◌, ◌<◌, ℕ, length, map, Contains, IfOk};
 ghost use Rattle.std.specs.List.Sorted.{IsStrictlyIncreasing};
@@ -11,7 +11,7 @@ ghost use Rattle.lic_places.specs.Places.{spelling_of};
 ghost use Rattle.lic_places.specs.Reads.{Reads};
 ghost use Rattle.lic_view.specs.PlaceSets.{ArePlaced, Reaches};
 ghost use Rattle.lic_keys.specs.Required.{HoldEnds};
-ghost use Rattle.lic_search.specs.Windows.{AddsEnds, AreTokenEnds, ListsEnd};
+ghost use Rattle.lic_search.specs.Ends.{AddsEnds, AreTokenEnds, ListsEnd};
 
 use crate::matches::token_end;
 use crate::reach::most_bytes;

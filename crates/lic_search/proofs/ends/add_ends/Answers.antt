@@ -2,10 +2,10 @@
 use Rattle.std.proofs.Common.{◌≡◌, ◌+◌, ◌<◌, List, [], ◌∷◌, ◌++◌, sym, subst, arith}
 use Rattle.lic_norm.specs.Places.{place_end}
 use Rattle.lic_spans.specs.declared.span.PlaceSpan.{PlaceSpan}
-use Rattle.lic_search.specs.Windows.{AddsEnds}
+use Rattle.lic_search.specs.Ends.{AddsEnds}
 use Rattle.lic_view.proofs.ViewPlaces.{ends-order}
-use Rattle.lic_search.proofs.WindowEnds.{adds-push}
-use Rattle.lic_search.proofs.windows.add_ends.Goals as goal
+use Rattle.lic_search.proofs.EndLists.{adds-push}
+use Rattle.lic_search.proofs.ends.add_ends.Goals as goal
 
 pub loop-token-preserved : goal.loop-token-preserved
 loop-token-preserved c =

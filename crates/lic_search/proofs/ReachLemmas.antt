@@ -13,18 +13,18 @@ use Rattle.lic_places.proofs.Reading.{Reads-order}
 use Rattle.lic_spans.specs.declared.span.PlaceSpan.{PlaceSpan}
 use Rattle.lic_view.specs.PlaceSets.{Reaches}
 use Rattle.lic_view.specs.Backward.{IsBackFrom}
-use Rattle.lic_search.specs.Windows.{TakesAtMost}
+use Rattle.lic_search.specs.Ends.{TakesAtMost}
 use Rattle.lic_keys.proofs.RequiredEndLemmas.{EndsText}
-use Rattle.lic_search.proofs.WindowBounds.{IsBound, most_number}
+use Rattle.lic_search.proofs.ReachBounds.{IsBound, most_number}
 use Rattle.lic_view.specs.declared.sets.keep.Keep.{Keep}
 
 -- ---- where words end
 
--- the end of a word lies in the window after that place
-pub window-reach : (tokens : List TokenValue) (parts : List Part) (number : ℕ) (places : List ℕ) (end after most : ℕ)
+-- the end of a word lies so few bytes after that place
+pub word-reach : (tokens : List TokenValue) (parts : List Part) (number : ℕ) (places : List ℕ) (end after most : ℕ)
     (text : EndsText tokens parts number places end) → end ≤ most_number → most ≡ lesser (after + 1) most_number →
     IsBound (TakesAtMost (parts_words (map part_of (drop (number + 1) parts)))) after → (text.place ≤ end) × (end ≤ text.place + most)
-window-reach tokens parts number places end after most text bound is takes =
+word-reach tokens parts number places end after most text bound is takes =
     let forward = Reads-order tokens text.word text.next end text.reads in
     (omega (arith, text.from), reach (cases_lt after most_number))
   where

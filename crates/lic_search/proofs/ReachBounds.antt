@@ -27,7 +27,7 @@ use Rattle.lic_norm.specs.Tokens.{TokenValue}
 use Rattle.lic_places.specs.Reads.{Reads, Takes}
 use Rattle.lic_places.proofs.Reading.{Reads-cut, Reads-most}
 use Rattle.lic_places.proofs.TokenPlaces.{OverBlank-order}
-use Rattle.lic_search.specs.Windows.{HasAtMost, TakesAtMost}
+use Rattle.lic_search.specs.Ends.{HasAtMost, TakesAtMost}
 use Rattle.lic_keys.proofs.RequiredEndLemmas.{parts-joined}
 
 -- ---- letters

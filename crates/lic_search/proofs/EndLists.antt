@@ -1,4 +1,4 @@
--- The ends of tokens in windows after places: what lists of them have, and one window more.
+-- The ends of tokens up to some bytes after places: what lists of them have, and one place more.
 use Rattle.std.proofs.Common.{◌≡◌, ◌⊎◌, inl, inr, ℕ, zero, suc, ◌+◌, ◌<◌, ◌≤◌, List, [], ◌∷◌, ◌++◌, length, get_or, refl, sym, ap, ◌∙◌, subst, arith}
 use Rattle.std.specs.Prelude.{Contains, min as lesser}
 use Rattle.std.specs.List.Sorted.{IsStrictlyIncreasing}
@@ -13,7 +13,7 @@ use Rattle.lic_spans.specs.declared.span.SpanKind.TheVariants.{End}
 use Rattle.lic_spans.specs.declared.span.PlaceSpan.{PlaceSpan}
 use Rattle.lic_view.specs.PlaceSets.{ArePlaced, IsPlaceOf, LiesBefore, Reaches}
 use Rattle.lic_search.specs.Beginnings.{IsEndOf}
-use Rattle.lic_search.specs.Windows.{AddsEnds, AreTokenEnds, ListsEnd}
+use Rattle.lic_search.specs.Ends.{AddsEnds, AreTokenEnds, ListsEnd}
 
 -- ---- ends of tokens as spans
 
@@ -88,7 +88,7 @@ adds-push tokens first token old ends span within adds is = record {
     still : (last : ℕ) → ListsEnd tokens ends last → ListsEnd tokens (ends ++ span ∷ []) last
     still last listed = record { span = listed.span; among = Contains-append_left ends (span ∷ []) listed.span listed.among; is = listed.is }
 
--- ---- windows, one after another
+-- ---- place after place
 
 -- each later number of a rising list is no less
 pub rises : (xs : List ℕ) (i j : ℕ) → IsStrictlyIncreasing xs → i ≤ j → j < length xs → get_or xs i 0 ≤ get_or xs j 0
@@ -104,32 +104,32 @@ rises xs i (suc j) rising order within =
           omega (arith, before, next, same)
     ]
 
--- the ends that lie in the windows after the first n places are listed, and of the tokens before one those that end at
+-- the ends that lie up to some bytes after the first n places are listed, and of the tokens before one those that end at
 -- a later place or after it
-pub record ListsWindows (tokens : List TokenValue) (places : List ℕ) (most count next : ℕ) (found : List PlaceSpan) : Type 0 where
+pub record ListsEndsAfter (tokens : List TokenValue) (places : List ℕ) (most count next : ℕ) (found : List PlaceSpan) : Type 0 where
   pub ends : AreTokenEnds tokens found
-  pub windows : (k last : ℕ) → k < count → last < length tokens → get_or places k 0 ≤ place_end tokens last →
+  pub listed : (k last : ℕ) → k < count → last < length tokens → get_or places k 0 ≤ place_end tokens last →
       place_end tokens last ≤ get_or places k 0 + most → ListsEnd tokens found last
   pub before : (k last : ℕ) → count ≤ k → k < length places → last < next → last < length tokens → get_or places k 0 ≤ place_end tokens last →
       ListsEnd tokens found last
 
-pub windows-none : (tokens : List TokenValue) (places : List ℕ) (most : ℕ) → ListsWindows tokens places most 0 0 []
-windows-none tokens places most = record {
+pub listed-none : (tokens : List TokenValue) (places : List ℕ) (most : ℕ) → ListsEndsAfter tokens places most 0 0 []
+listed-none tokens places most = record {
   ends = ends-none tokens;
-  windows = λ k last below within from to. absurd (omega arith);
+  listed = λ k last below within from to. absurd (omega arith);
   before = λ k last from within below inside at. absurd (omega arith);
 }
 
--- one window more
-pub windows-more : (tokens : List TokenValue) (places : List ℕ) (most count next first later to greatest : ℕ) (old new : List PlaceSpan) →
-    IsStrictlyIncreasing places → count < length places → ListsWindows tokens places most count next old →
+-- one place more
+pub listed-more : (tokens : List TokenValue) (places : List ℕ) (most count next first later to greatest : ℕ) (old new : List PlaceSpan) →
+    IsStrictlyIncreasing places → count < length places → ListsEndsAfter tokens places most count next old →
     ((last : ℕ) → next ≤ last → last < length tokens → get_or places count 0 ≤ place_end tokens last → first ≤ last) →
     ((last : ℕ) → last < length tokens → place_end tokens last ≤ greatest) → to ≡ lesser (get_or places count 0 + most) greatest →
     AddsEnds tokens first later old new → ((last : ℕ) → later ≤ last → last < length tokens → to < place_end tokens last) →
-    ListsWindows tokens places most (count + 1) later new
-windows-more tokens places most count next first later to greatest old new rising within lists from bound window adds after = record {
+    ListsEndsAfter tokens places most (count + 1) later new
+listed-more tokens places most count next first later to greatest old new rising within lists from bound edge adds after = record {
   ends = adds.ends lists.ends;
-  windows = λ k last below inside at reach. by_window k last inside at reach (cases_lt k count) below;
+  listed = λ k last below inside at reach. by_place k last inside at reach (cases_lt k count) below;
   before = λ k last order some below inside at.
       let risen = rises places count k rising (omega arith) some in
       up_to last below inside (omega arith);
@@ -147,10 +147,10 @@ windows-more tokens places most count next first later to greatest old new risin
           | inr le ↦ adds.added last le below
         ]
 
-    by_window : (k last : ℕ) → last < length tokens → get_or places k 0 ≤ place_end tokens last → place_end tokens last ≤ get_or places k 0 + most →
+    by_place : (k last : ℕ) → last < length tokens → get_or places k 0 ≤ place_end tokens last → place_end tokens last ≤ get_or places k 0 + most →
         (k < count) ⊎ (count ≤ k) → k < count + 1 → ListsEnd tokens new last
-    by_window k last inside at reach (inl earlier) below = adds.kept last (lists.windows k last earlier inside at reach)
-    by_window k last inside at reach (inr le) below =
+    by_place k last inside at reach (inl earlier) below = adds.kept last (lists.listed k last earlier inside at reach)
+    by_place k last inside at reach (inr le) below =
         let same : k ≡ count = omega arith in
         let place : get_or places k 0 ≡ get_or places count 0 = ap (λ n. get_or places n 0) same in
         elim (cases_lt last later) [
@@ -161,10 +161,10 @@ windows-more tokens places most count next first later to greatest old new risin
               absurd (omega arith)
         ]
 
--- all windows
-pub windows-all : (tokens : List TokenValue) (places : List ℕ) (most count next : ℕ) (ends : List PlaceSpan) → length places ≤ count →
-    ListsWindows tokens places most count next ends → (place last : ℕ) → Contains places place → last < length tokens →
+-- all places
+pub listed-all : (tokens : List TokenValue) (places : List ℕ) (most count next : ℕ) (ends : List PlaceSpan) → length places ≤ count →
+    ListsEndsAfter tokens places most count next ends → (place last : ℕ) → Contains places place → last < length tokens →
     place ≤ place_end tokens last → place_end tokens last ≤ place + most → ListsEnd tokens ends last
-windows-all tokens places most count next ends all lists place last among inside at reach =
+listed-all tokens places most count next ends all lists place last among inside at reach =
     let same : get_or places among.0 0 ≡ place = get_or_default places among.0 0 place among.1 ∙ among.2 in
-    lists.windows among.0 last (omega (arith, among.1)) inside (omega arith) (omega arith)
+    lists.listed among.0 last (omega (arith, among.1)) inside (omega arith) (omega arith)
