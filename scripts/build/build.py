@@ -11,19 +11,19 @@ from proving import Proving, keeps_proofs, minutes, say
 PROGRAM = "licscan"
 
 
-def newest_source(folder):
-    """When the newest source of a crate was changed."""
+def newest_source(crates):
+    """When a source of a crate was last changed, added or removed."""
     newest = 0
-    for at, folders, files in os.walk(folder):
-        folders[:] = [it for it in folders if it != "out"]
-        for name in files:
-            if name.endswith((".rt", ".antt")):
-                newest = max(newest, os.path.getmtime(f"{at}/{name}"))
+    for name in os.listdir(crates):
+        for part in "src", "specs", "proofs":
+            for at, _, files in os.walk(f"{crates}/{name}/{part}"):
+                paths = [at, *(f"{at}/{it}" for it in files if it.endswith((".rt", ".antt")))]
+                newest = max(newest, *map(os.path.getmtime, paths))
     return newest
 
 
 def is_current(top):
-    """Whether the program is there, and no source of a crate is newer."""
+    """Whether the program is there, and no source of a crate is newer, or gone since."""
     program = f"{top}/crates/{PROGRAM}/out/{PROGRAM}"
     return os.access(program, os.X_OK) and os.path.getmtime(program) >= newest_source(f"{top}/crates")
 
