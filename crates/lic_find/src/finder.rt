@@ -54,7 +54,7 @@ impl<'a> Finder<'a> {
 
     /// All matches. Fails if memory runs out.
     ///
-    /// It is over the templates alone that can describe a range of the text.
+    /// It is over the candidates alone: the templates that are not ruled out for the text.
     pub fn new(alloc: Global, set: &'a Set, text: &'a Text) -> Result<Finder<'a>, AllocError>
         ensures all { IfOk result (λ f. AreMatches set.now text.now.tokens None (remaining_matches f)) }
         ensures only { IfOk result (λ f. (others : List Triple)
@@ -200,7 +200,7 @@ impl<'a> Finder<'a> {
     }
 }
 
-// The numbers of the templates that can describe a range of the text's tokens, in rising order.
+// The numbers of the candidates, in rising order: all other templates describe no range of the text's tokens.
 fn candidate_numbers(alloc: Global, set: &Set, text: &Text) -> Result<Vec<usize>, AllocError>
     ensures rising { IfOk result (λ numbers. IsRising numbers.items (length set.now)) }
     ensures others { IfOk result (λ numbers.
