@@ -1,17 +1,16 @@
 -- Literals that are kept as candidates, and the places at which they end.
 use Rattle.std.proofs.Common.{◌≡◌, ◌↔◌, ◌&&◌, ℕ, ◌-◌, ◌<◌, ◌≤◌, true, List, Some, inl, inr, map, filter, leb, length, get_or, All, sym, ap, ◌∙◌, subst, arith}
 use Rattle.std.specs.Bool.{Decides}
-use Rattle.std.specs.Prelude.{IfSome, slice_range}
+use Rattle.std.specs.Prelude.{IfOk, IfSome, Result, Ok, Err, slice_range}
 use Rattle.std.specs.List.{Contains}
 use Rattle.std.specs.List.Sorted.{IsStrictlyIncreasing}
 use Rattle.std.specs.Str.{bytes_eq}
 use Rattle.std.proofs.lemmas.Bool.{cases_lt, le-leb, leb-true}
 use Rattle.std.proofs.lemmas.Bool.Decides.{Decides-and}
 use Rattle.std.proofs.lemmas.List.{get_or-map, get_or_default, length-map}
-use Rattle.std.proofs.lemmas.List.Elements.{All-contains, All-map, filter_passes}
+use Rattle.std.proofs.lemmas.List.Elements.{All-contains, filter_passes}
 use Rattle.std.proofs.lemmas.List.Kept.{IsStrictlyIncreasing-filter}
 use Rattle.std.proofs.lemmas.Map.Keys.{below_from_sorted, sorted_from_strictly_increasing}
-use Rattle.std.proofs.lemmas.Simd.{map-map}
 use Rattle.std.proofs.lemmas.Slice.Eq.{bytes_eq-Decides}
 use Rattle.lic_phrases.proofs.WordClasses.{contains-map}
 use Rattle.lic_literals.specs.Ends.{EndsAt}
@@ -21,13 +20,14 @@ use Rattle.lic_literals.proofs.KeptLemmas.{Contains-filter}
 use Rattle.lic_literals.proofs.Occurring.{EndsAt-range}
 use Rattle.lic_keys.specs.Candidates.{IsCandidateIn, KeepsEnds, ends_at}
 use Rattle.lic_keys.specs.Keys.{KeysValue, letters_of}
-use Rattle.lic_keys.specs.declared.candidate.Candidate.{Candidate}
+
+-- four facts of a value together
+pub IfOk-four : {X Y : Type 0} (r : Result X Y) (P Q R S G : X → Type 0) → ((x : X) → P x → Q x → R x → S x → G x) →
+    IfOk r P → IfOk r Q → IfOk r R → IfOk r S → IfOk r G
+IfOk-four (Ok x) P Q R S G all p q r s = all x p q r s
+IfOk-four (Err e) P Q R S G all p q r s = tt
 
 -- ---- candidates
-
--- a literal that is kept, as a candidate
-abbrev pub candidate_of : Kept → Candidate
-candidate_of kept = record { number = kept.number; kept = kept }
 
 -- what is known of the literals that are kept
 pub record AreKept (keys : KeysValue) (bytes : List ℕ) (kept : List Kept) : Type 0 where
@@ -38,18 +38,11 @@ pub record AreKept (keys : KeysValue) (bytes : List ℕ) (kept : List Kept) : Ty
   pub ends_rise : All (λ k. IfSome (ends_of k) IsStrictlyIncreasing) kept
 
 module _ (keys : KeysValue) (bytes : List ℕ) (kept : List Kept) (are : AreKept keys bytes kept) where
-  same-numbers : map (λ c. c.number) (map candidate_of kept) ≡ map (λ k. k.number) kept
-  same-numbers = map-map (λ (c : Candidate). c.number) candidate_of kept
-
-  pub numbers-rise : IsStrictlyIncreasing (map (λ c. c.number) (map candidate_of kept))
-  numbers-rise = subst IsStrictlyIncreasing (sym same-numbers) are.rising
-
   pub ending-found : (number e : ℕ) → number < length keys.texts → EndsAt bytes (letters_of keys number) e →
-      Contains (map (λ c. c.number) (map candidate_of kept)) number
+      Contains (map (λ c. c.number) kept) number
   ending-found number e below ends =
       let (k, inside, is, may) = are.complete number e below ends in
-      subst (λ ns. Contains ns number) (sym same-numbers)
-      (subst (Contains (map (λ k. k.number) kept)) is (contains-map (λ (k : Kept). k.number) kept k inside))
+      subst (Contains (map (λ k. k.number) kept)) is (contains-map (λ (k : Kept). k.number) kept k inside)
 
   -- two that are kept have different numbers
   one-alone : (i j : ℕ) (d : Kept) → i < length kept → j < length kept → (get_or kept i d).number ≡ (get_or kept j d).number → i ≡ j
@@ -68,7 +61,7 @@ module _ (keys : KeysValue) (bytes : List ℕ) (kept : List Kept) (are : AreKept
             ]
       ]
 
-  kept-keeps : (i : ℕ) (d : Kept) → i < length kept → KeepsEnds bytes (letters_of keys (get_or kept i d).number) (candidate_of (get_or kept i d))
+  kept-keeps : (i : ℕ) (d : Kept) → i < length kept → KeepsEnds bytes (letters_of keys (get_or kept i d).number) (get_or kept i d)
   kept-keeps i d inside = record {
     all = λ e ends.
         let (k, (j, within, is), same, may) = are.complete (get_or kept i d).number e (are.below i d inside) ends in
@@ -78,10 +71,8 @@ module _ (keys : KeysValue) (bytes : List ℕ) (kept : List Kept) (are : AreKept
     rising = are.ends_rise i d inside;
   }
 
-  pub each-candidate : All (IsCandidateIn keys bytes) (map candidate_of kept)
-  each-candidate =
-      All-map (IsCandidateIn keys bytes) candidate_of kept
-      (λ i d inside. record { below = are.below i d inside; ends = λ part is. kept-keeps i d inside })
+  pub each-candidate : All (IsCandidateIn keys bytes) kept
+  each-candidate i d inside = record { below = are.below i d inside; ends = λ part is. kept-keeps i d inside }
 
 -- ---- ends
 
@@ -104,7 +95,7 @@ module _ (bytes letters : List ℕ) where
       )
 
   -- the places among which all ends are
-  module _ (candidate : Candidate) (keeps : KeepsEnds bytes letters candidate) (places : List ℕ) (known : ends_of candidate.kept ≡ Some places) where
+  module _ (candidate : Kept) (keeps : KeepsEnds bytes letters candidate) (places : List ℕ) (known : ends_of candidate ≡ Some places) where
     pub true-exact : (e : ℕ) → Contains (filter (ends_at bytes letters) places) e ↔ EndsAt bytes letters e
     true-exact e = (
       λ inside. (ends_at-Decides e).0 (All-contains (λ x. ends_at bytes letters x ≡ true) (filter (ends_at bytes letters) places) e (filter_passes (ends_at bytes letters) places) inside),

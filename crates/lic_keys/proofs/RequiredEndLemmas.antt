@@ -8,7 +8,7 @@ use Rattle.std.proofs.lemmas.Option.{get_or_from_slice_get, slice_get_within}
 use Rattle.lic_words.specs.Words.{Word, Cat, blank}
 use Rattle.lic_words.specs.Expressions.{Language}
 use Rattle.lic_words.specs.Describing.{IsDescribed}
-use Rattle.lic_phrases.specs.Spelling.{blank_if, spelled}
+use Rattle.lic_phrases.specs.Spelling.{blank_if}
 use Rattle.lic_markup.specs.declared.part.Part.{Part}
 use Rattle.lic_markup.specs.Meaning.{parts_words}
 use Rattle.lic_markup.specs.Parts as nodes

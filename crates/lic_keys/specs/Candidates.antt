@@ -4,16 +4,16 @@ use Rattle.std.specs.List.Sorted.{IsStrictlyIncreasing}
 use Rattle.std.specs.Str.{bytes_eq}
 use Rattle.lic_literals.specs.Ends.{EndsAt}
 use Rattle.lic_literals.specs.Kept.{MayEndAt, ends_of}
+use Rattle.lic_literals.specs.declared.kept.Kept.{Kept}
 use Rattle.lic_keys.specs.Keys.{KeysValue, letters_of, text_of}
-use Rattle.lic_keys.specs.declared.candidate.Candidate.{Candidate}
 
 -- the candidate may end at each place at which the letters end, and the places at which it may end, if they are known, rise
-pub record KeepsEnds (bytes letters : List ℕ) (candidate : Candidate) : Type 0 where
-  pub all : (e : ℕ) → EndsAt bytes letters e → MayEndAt candidate.kept e
-  pub rising : IfSome (ends_of candidate.kept) IsStrictlyIncreasing
+pub record KeepsEnds (bytes letters : List ℕ) (candidate : Kept) : Type 0 where
+  pub all : (e : ℕ) → EndsAt bytes letters e → MayEndAt candidate e
+  pub rising : IfSome (ends_of candidate) IsStrictlyIncreasing
 
 -- one of the templates, whose text, if it has one, may end where it does
-pub record IsCandidateIn (keys : KeysValue) (bytes : List ℕ) (candidate : Candidate) : Type 0 where
+pub record IsCandidateIn (keys : KeysValue) (bytes : List ℕ) (candidate : Kept) : Type 0 where
   pub below : candidate.number < length keys.texts
   pub ends : (part : ℕ) → text_of keys candidate.number ≡ Some part → KeepsEnds bytes (letters_of keys candidate.number) candidate
 

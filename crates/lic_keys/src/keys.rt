@@ -7,8 +7,9 @@ ghost use Rattle.lic_literals.specs.Ends.{EndsAt};
 ghost use Rattle.lic_keys.specs.Keys.{AreKeysOf, IsKeyOf, letters_of, text_of};
 ghost use Rattle.lic_keys.specs.Candidates.{IsCandidateIn, ends_at};
 
-use crate::candidate::{Candidate, RequiredEnds};
+use crate::Candidate;
 use crate::longest::longest_text;
+use crate::required_ends::RequiredEnds;
 use lic_literals::ends_within;
 use lic_markup::Template;
 use lic_markup::laws::texts_are_those_of_pieces;
@@ -69,13 +70,7 @@ impl Keys {
             → Contains (map (λ c. c.number) found.items) number) }
         ensures each { IfOk result (λ found. All (IsCandidateIn self.now bytes.now) found.items) }
     {
-        let kept = self.literals.kept(alloc, bytes)?;
-        kept.into_iter()
-            .map(|kept| Candidate {
-                number: kept.number,
-                kept,
-            })
-            .collect(alloc)
+        self.literals.kept(alloc, bytes)
     }
 
     /// Where the text of a candidate ends in the bytes in which it was found; none where the template has no text.
@@ -100,7 +95,7 @@ impl Keys {
             return Ok(None);
         };
         let letters = self.literals.literal(candidate.number);
-        let places = match candidate.kept.ends(alloc)? {
+        let places = match candidate.ends(alloc)? {
             Some(places) => true_ends(bytes, letters, places),
             None => ends_within(alloc, bytes, letters, 0, bytes.len())?,
         };

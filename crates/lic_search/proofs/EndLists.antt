@@ -127,7 +127,7 @@ pub listed-more : (tokens : List TokenValue) (places : List ℕ) (most count nex
     ((last : ℕ) → last < length tokens → place_end tokens last ≤ greatest) → to ≡ lesser (get_or places count 0 + most) greatest →
     AddsEnds tokens first later old new → ((last : ℕ) → later ≤ last → last < length tokens → to < place_end tokens last) →
     ListsEndsAfter tokens places most (count + 1) later new
-listed-more tokens places most count next first later to greatest old new rising within lists from bound near adds after = record {
+listed-more tokens places most count next first later to greatest old new rising within lists from bound edge adds after = record {
   ends = adds.ends lists.ends;
   listed = λ k last below inside at reach. by_place k last inside at reach (cases_lt k count) below;
   before = λ k last order some below inside at.

@@ -11,8 +11,8 @@ use Rattle.lic_markup.specs.Parts.{TemplateValue}
 use Rattle.lic_words.specs.Describing.{IsDescribed}
 use Rattle.lic_norm.specs.Tokens.{TokenValue}
 use Rattle.lic_keys.specs.Required.{HoldEnds}
-use Rattle.lic_keys.specs.declared.candidate.Candidate.{Candidate}
-use Rattle.lic_keys.specs.declared.candidate.RequiredEnds.{RequiredEnds}
+use Rattle.lic_literals.specs.declared.kept.Kept.{Kept}
+use Rattle.lic_keys.specs.declared.required_ends.RequiredEnds.{RequiredEnds}
 use Rattle.lic_set.specs.Candidates.{number_of}
 use Rattle.lic_set.specs.Rising.{IsRising}
 use Rattle.lic_set.specs.Sets.{Known, words_of}
@@ -62,13 +62,13 @@ required_of set number known parts found bytes (Some at) same is ends rising = (
 )
 
 -- the numbers of one candidate more
-pub numbers_more : (candidates : List Candidate) (i : ℕ) (candidate : Candidate) → i < length candidates → candidate ≡ get_or candidates i candidate →
+pub numbers_more : (candidates : List Kept) (i : ℕ) (candidate : Kept) → i < length candidates → candidate ≡ get_or candidates i candidate →
     map number_of (take (i + 1) candidates) ≡ map number_of (take i candidates) ++ candidate.number ∷ []
 numbers_more candidates i candidate below is =
     ap (map number_of) (take_more candidates i candidate below ∙ ap (λ one. take i candidates ++ one ∷ []) (sym is)) ∙ map_push number_of (take i candidates) candidate
 
 -- the number of a candidate is greater than those before it, and one of the set's
-pub numbers_rise : (candidates : List Candidate) (i : ℕ) (candidate : Candidate) (count : ℕ) → i < length candidates → candidate ≡ get_or candidates i candidate →
+pub numbers_rise : (candidates : List Kept) (i : ℕ) (candidate : Kept) (count : ℕ) → i < length candidates → candidate ≡ get_or candidates i candidate →
     IsRising (map number_of candidates) count → ((n : ℕ) → Contains (map number_of (take i candidates)) n → n < candidate.number) × (candidate.number < count)
 numbers_rise candidates i candidate count below is rising = (before, omega (arith, rising.below i inside, here))
   where

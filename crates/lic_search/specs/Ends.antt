@@ -6,7 +6,7 @@ use Rattle.lic_words.specs.Expressions.{Expression, Language}
 use Rattle.lic_markup.specs.declared.part.Part.{Part}
 use Rattle.lic_norm.specs.Tokens.{TokenValue}
 use Rattle.lic_keys.specs.Required.{HoldEnds}
-use Rattle.lic_keys.specs.declared.candidate.RequiredEnds.{RequiredEnds}
+use Rattle.lic_keys.specs.declared.required_ends.RequiredEnds.{RequiredEnds}
 use Rattle.lic_places.specs.Reads.{Reads}
 use Rattle.lic_spans.specs.declared.span.PlaceSpan.{PlaceSpan}
 use Rattle.lic_search.specs.Beginnings.{IsEndOf}

@@ -12,8 +12,8 @@ use Rattle.lic_places.specs.Places.{AreTexts, spelling_of}
 use Rattle.lic_keys.specs.Candidates.{IsCandidateIn, KeepsEnds}
 use Rattle.lic_keys.specs.Keys.{AreKeysOf, IsKeyOf, KeysValue, letters_of, text_of}
 use Rattle.lic_keys.specs.Required.{HasNoLetters, HoldEnds, IsLongestText}
-use Rattle.lic_keys.specs.declared.candidate.Candidate.{Candidate}
-use Rattle.lic_keys.specs.declared.candidate.RequiredEnds.{RequiredEnds}
+use Rattle.lic_literals.specs.declared.kept.Kept.{Kept}
+use Rattle.lic_keys.specs.declared.required_ends.RequiredEnds.{RequiredEnds}
 use Rattle.lic_keys.proofs.LongestLemmas.{longest-alike}
 use Rattle.lic_keys.proofs.RequiredEndLemmas.{described-ends}
 use Rattle.lic_set.specs.Candidates.{IsCandidateOf, number_of}
@@ -23,7 +23,7 @@ use Rattle.lic_set.specs.Sets.{Known, parts_of}
 use Rattle.lic_set.specs.declared.triple.Triple.{Triple}
 
 -- the numbers of candidates
-pub rising-numbers : (found : List Candidate) (n : ℕ) → IsStrictlyIncreasing (map (λ c. c.number) found) → All (λ c. c.number < n) found →
+pub rising-numbers : (found : List Kept) (n : ℕ) → IsStrictlyIncreasing (map (λ c. c.number) found) → All (λ c. c.number < n) found →
     IsRising (map number_of found) n
 rising-numbers found n rising below = record {
   order = rising;
@@ -32,7 +32,7 @@ rising-numbers found n rising below = record {
       at found i (omega arith) below;
 }
   where
-    at : (found : List Candidate) (i : ℕ) → i < length found → All (λ c. c.number < n) found → get_or (map number_of found) i 0 < n
+    at : (found : List Kept) (i : ℕ) → i < length found → All (λ c. c.number < n) found → get_or (map number_of found) i 0 < n
     at [] i within all = absurd (omega arith)
     at (first ∷ later) i within all =
         let is : get_or (map number_of (first ∷ later)) i 0 ≡ (get_or (first ∷ later) i first).number = get_or-map number_of (first ∷ later) i first 0 within in
@@ -44,7 +44,7 @@ both-ok P Q (Ok x) p q = (p, q)
 both-ok P Q (Err e) p q = tt
 
 -- the places of another text with the same letters
-same-text : (bytes : List ℕ) (candidate : Candidate) (parts : List Part) (text : Option ℕ) (own : List ℕ) (part : ℕ) (letters : List ℕ) →
+same-text : (bytes : List ℕ) (candidate : Kept) (parts : List Part) (text : Option ℕ) (own : List ℕ) (part : ℕ) (letters : List ℕ) →
     IsKeyOf parts text own → ((number : ℕ) → text ≡ Some number → KeepsEnds bytes own candidate) → IsLongestText parts part letters →
     KeepsEnds bytes letters candidate
 same-text bytes candidate parts None own part letters key keeps longest = absurd (key.1 part letters longest.has)
@@ -72,7 +72,7 @@ module _ (set : List Known) (keys : KeysValue) (are : AreKeysOf (parts_of set) k
       (slice_get-get_or (parts_of set) k d.template.parts (omega arith) ∙ ap Some (get_or-map parts set k d d.template.parts within))
 
   module _ (tokens : List TokenValue) where
-    pub is-candidate : (candidate : Candidate) → IsCandidateIn keys (spelling_of tokens) candidate → IsCandidateOf set tokens candidate
+    pub is-candidate : (candidate : Kept) → IsCandidateIn keys (spelling_of tokens) candidate → IsCandidateOf set tokens candidate
     is-candidate candidate is =
         let below : candidate.number < length set = omega (arith, is.below, keys-count) in
         record {
@@ -82,7 +82,7 @@ module _ (set : List Known) (keys : KeysValue) (are : AreKeysOf (parts_of set) k
               (letters_of keys candidate.number) part letters (key-of candidate.number d below) is.ends longest;
         }
 
-    pub is-candidate-in : (d : Known) (candidate : Candidate) → IsCandidateOf set tokens candidate → IsCandidateIn keys (spelling_of tokens) candidate
+    pub is-candidate-in : (d : Known) (candidate : Kept) → IsCandidateOf set tokens candidate → IsCandidateIn keys (spelling_of tokens) candidate
     is-candidate-in d candidate of = record {
       below = omega (arith, of.below, keys-count);
       ends = λ part is.
@@ -106,7 +106,7 @@ module _ (set : List Known) (keys : KeysValue) (are : AreKeysOf (parts_of set) k
         key-ends tokens parts (text_of keys t.template) (letters_of keys t.template) key
         (λ number longest. described-ends tokens parts number t.first t.last (letters_of keys t.template) texts longest.has match.order match.within match.described)
 
-  module _ (candidate : Candidate) (below : candidate.number < length set) where
+  module _ (candidate : Kept) (below : candidate.number < length set) where
     -- the places of the text that is looked for are those of a required text
     pub hold-ends : (bytes : List ℕ) (found : Option RequiredEnds) → option_map (λ ends. ends.part) found ≡ text_of keys candidate.number →
         IfSome found (λ ends. (e : ℕ) → Contains ends.places.items e ↔ EndsAt bytes (letters_of keys candidate.number) e) →

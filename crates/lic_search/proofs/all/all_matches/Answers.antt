@@ -4,7 +4,7 @@ use Rattle.std.specs.Prelude.{Contains}
 use Rattle.std.proofs.lemmas.List.{take_all}
 use Rattle.std.proofs.lemmas.List.Elements.{Contains-get_or}
 use Rattle.lic_norm.specs.Tokens.{TokenValue}
-use Rattle.lic_keys.specs.declared.candidate.Candidate.{Candidate}
+use Rattle.lic_literals.specs.declared.kept.Kept.{Kept}
 use Rattle.lic_set.specs.Candidates.{number_of}
 use Rattle.lic_set.specs.Rising.{IsRising}
 use Rattle.lic_search.specs.AllMatches.{AddsTemplate}
@@ -23,16 +23,16 @@ pub loop-candidate-preserved : goal.loop-candidate-preserved
 loop-candidate-preserved c =
     let set = c.args.set.now in
     let tokens = c.args.text.now.tokens in
-    let items : List Candidate = c.deref-candidate-items.result.now in
+    let items : List Kept = c.deref-candidate-items.result.now in
     let index = c.loop-candidate.candidate-index in
-    let candidate : Candidate = c.candidate-item.result in
+    let candidate : Kept = c.candidate-item.result in
     let old = c.loop-candidate.found in
     let new = c.add_template.new.found in
     let invariant = c.loop-candidate.invariant in
     let rising = c.in_ok-candidates.ensures.rising in
     let all : items ≡ c.in_ok-candidates.candidates.items = c.deref-candidate-items.ensures.value in
     let same : c.new-view.result ≡ tokens = c.new-view.ensures ∙ c.tokens.ensures in
-    let order = numbers_rise items index candidate (length set) c.loop-candidate-test.true c.candidate-item.is (subst (λ (x : List Candidate). IsRising (map number_of x) (length set)) (sym all) rising) in
+    let order = numbers_rise items index candidate (length set) c.loop-candidate-test.true c.candidate-item.is (subst (λ (x : List Kept). IsRising (map number_of x) (length set)) (sym all) rising) in
     record {
       has =
           subst (λ (numbers : List ℕ). HasAllOf set tokens numbers new.bundles.items new.left.items)
@@ -46,11 +46,11 @@ loop-candidate-preserved c =
 
 pub returns-clause-complete : goal.returns-clause-complete
 returns-clause-complete c = λ t m.
-    let items : List Candidate = c.deref-candidate-items.result.now in
+    let items : List Kept = c.deref-candidate-items.result.now in
     let index = c.loop-candidate.candidate-index in
     let all : take index items ≡ c.in_ok-candidates.candidates.items = take_all index items c.loop-candidate-test.false ∙ c.deref-candidate-items.ensures.value in
     c.loop-candidate.invariant.has.complete t m
-    (subst (λ (x : List Candidate). Contains (map number_of x) t.template) (sym all) (c.in_ok-candidates.ensures.others t m))
+    (subst (λ (x : List Kept). Contains (map number_of x) t.template) (sym all) (c.in_ok-candidates.ensures.others t m))
 
 pub returns-clause-others : goal.returns-clause-others
 returns-clause-others c = λ k d low left.

@@ -28,7 +28,7 @@ keeps c =
     subst (λ letters. KeepsEnds c.args.bytes.now letters c.args.candidate.now) (sym (own-letters c)) (c.requires.ends c.in-Some.part text)
 
 -- the places that are known
-known : (c : goal.Joined-branch-2) (places : Vec ℕ Global) → c.in_ok-places.field-0 ≡ Some places → ends_of c.args.candidate.now.kept ≡ Some places.items
+known : (c : goal.Joined-branch-2) (places : Vec ℕ Global) → c.in_ok-places.field-0 ≡ Some places → ends_of c.args.candidate.now ≡ Some places.items
 known c places is = sym c.in_ok-places.ensures ∙ ap (option_map (λ list. list.items)) is
 
 pub returns-clause-exact : goal.returns-clause-exact
